@@ -1,0 +1,12 @@
+-- `chart::transition_word` meets its contract: what it returns is what its callees say. Assumes nothing.
+use borrow.Author.Needs.{needs}
+use Rattle.chart.proofs.transition_word.Statement.{statement}
+use Rattle.chart.proofs.transition_word.Tie as tie
+
+returns : tie.Need-returns
+returns c = (cc, search needs)
+
+pub transition-word-spec : {M : Type 1} → statement M
+transition-word-spec =
+    tie.close (tie.spec
+    (λ c κs. search needs) (λ c. search needs) (λ c κs. search needs) returns)

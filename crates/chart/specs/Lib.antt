@@ -1,0 +1,4 @@
+-- The chart: `View` the words of a table and the chart that they show; `Tree` above, nearest and apart; `Aid` the aid chart.
+pub mod View
+pub mod Tree
+pub mod Aid

@@ -1,0 +1,168 @@
+// The chart table: its layout, the reading of its records, and its tree of states. It judges nothing: every function
+// here takes any words at all. specs/View.antt says what chart the words show.
+ghost use mathlib.Core.Path.{_≡_};
+ghost use Prim.Native.Nat.{_+_, _*_, _<_};
+ghost use Rattle.chart.specs.View.{at, view, isAnd, andState?, childOf?, stateAt, transitionAt};
+ghost use Rattle.chart.specs.Tree.{meeting, apart};
+
+// Header words: the total, the counts, and the offsets of the sections.
+pub const TOTAL: usize = 1;
+
+pub const STATES: usize = 2;
+
+pub const TRANSITIONS: usize = 3;
+
+pub const EVENTS: usize = 4;
+
+pub const SIGNALS: usize = 5;
+
+pub const OUTPUTS: usize = 6;
+
+pub const VARIABLES: usize = 7;
+
+pub const TARGETS: usize = 8;
+
+pub const LITERALS: usize = 9;
+
+pub const ITEMS: usize = 10;
+
+pub const STATES_AT: usize = 11;
+
+pub const TRANSITIONS_AT: usize = 12;
+
+pub const TARGETS_AT: usize = 13;
+
+pub const LITERALS_AT: usize = 14;
+
+pub const ITEMS_AT: usize = 15;
+
+// Words of a state. A span is two words: its first record, and behind it its count.
+pub const KIND: usize = 0;
+
+pub const PARENT: usize = 1;
+
+pub const INITIAL: usize = 2;
+
+pub const EXITS: usize = 3;
+
+pub const ENTRIES: usize = 5;
+
+// Words of a transition: its literals are what it asks, its items what it does, its targets what it aims at.
+pub const SOURCE: usize = 0;
+
+pub const TRIGGER: usize = 1;
+
+pub const ASKS: usize = 2;
+
+pub const DOES: usize = 4;
+
+pub const AIMS: usize = 6;
+
+// Where the words of state k begin.
+pub fn state_at(t: &[u16], k: usize) -> usize
+    requires { ⌜ k < 1000000 ⌝ }
+    ensures is { λ x. ⌜ x ≡ stateAt (now (t .entry)) k ⌝ }
+    ensures small { λ x. ⌜ x < 65536 + 7 * k ⌝ }
+{
+    words::number(t, STATES_AT) + 7 * k
+}
+
+// Where the words of transition k begin.
+pub fn transition_at(t: &[u16], k: usize) -> usize
+    requires { ⌜ k < 1000000 ⌝ }
+    ensures is { λ x. ⌜ x ≡ transitionAt (now (t .entry)) k ⌝ }
+    ensures small { λ x. ⌜ x < 65536 + 8 * k ⌝ }
+{
+    words::number(t, TRANSITIONS_AT) + 8 * k
+}
+
+// Word r of state k.
+pub fn state_word(t: &[u16], k: usize, r: usize) -> usize
+    requires { ⌜ (k < 1000000) × (r < 7) ⌝ }
+    ensures is { λ x. ⌜ x ≡ at (now (t .entry)) (stateAt (now (t .entry)) k + r) ⌝ }
+    ensures small { λ x. ⌜ x < 65536 ⌝ }
+{
+    words::number(t, state_at(t, k) + r)
+}
+
+// Word r of transition k.
+pub fn transition_word(t: &[u16], k: usize, r: usize) -> usize
+    requires { ⌜ (k < 1000000) × (r < 8) ⌝ }
+    ensures is { λ x. ⌜ x ≡ at (now (t .entry)) (transitionAt (now (t .entry)) k + r) ⌝ }
+    ensures small { λ x. ⌜ x < 65536 ⌝ }
+{
+    words::number(t, transition_at(t, k) + r)
+}
+
+// Target word i.
+pub fn target_word(t: &[u16], i: usize) -> usize
+    requires { ⌜ i < 1000000 ⌝ }
+    ensures is { λ x. ⌜ x ≡ view (now (t .entry)) .target i ⌝ }
+    ensures small { λ x. ⌜ x < 65536 ⌝ }
+{
+    words::number(t, words::number(t, TARGETS_AT) + i)
+}
+
+// Whether state k is an and-state.
+pub fn is_and(t: &[u16], k: usize) -> bool
+    requires { ⌜ k < 1000000 ⌝ }
+    ensures { λ r. ⌜ r ≡ isAnd (view (now (t .entry))) k ⌝ }
+{
+    state_word(t, k, KIND) == 2
+}
+
+// Whether a is the number of an and-state.
+pub fn is_and_state(t: &[u16], a: usize) -> bool
+    requires { ⌜ a < 1000000 ⌝ }
+    ensures { λ r. ⌜ r ≡ andState? (view (now (t .entry))) a ⌝ }
+{
+    words::both(a < words::number(t, STATES), is_and(t, a))
+}
+
+// Whether j is the number of a child of state k.
+pub fn is_child(t: &[u16], k: usize, j: usize) -> bool
+    requires { ⌜ j < 1000000 ⌝ }
+    ensures { λ r. ⌜ r ≡ childOf? (view (now (t .entry))) k j ⌝ }
+{
+    words::both(j < words::number(t, STATES), state_word(t, j, PARENT) == k)
+}
+
+// The nearest state that is one of a and b or above it, and so for the other; 0 where there is none.
+fn meeting_of(t: &[u16], a: usize, b: usize) -> usize
+    ensures is { λ r. ⌜ r ≡ meeting (view (now (t .entry))) a b ⌝ }
+    ensures small { λ r. ⌜ r < 65536 ⌝ }
+{
+    let n = words::number(t, STATES);
+    if n <= a {
+        return 0;
+    }
+    if n <= b {
+        return 0;
+    }
+    let mut x = a;
+    let mut y = b;
+    while x != y {
+        if x < y {
+            let up = state_word(t, y, PARENT);
+            if y <= up {
+                return 0;
+            }
+            y = up;
+        } else {
+            let up = state_word(t, x, PARENT);
+            if x <= up {
+                return 0;
+            }
+            x = up;
+        }
+    }
+    x
+}
+
+// Whether two targets are apart: distinct, neither above the other, and met in an and-state.
+pub fn are_apart(t: &[u16], a: usize, b: usize) -> bool
+    ensures { λ r. ⌜ r ≡ apart (view (now (t .entry))) a b ⌝ }
+{
+    let m = meeting_of(t, a, b);
+    words::both(m != a, words::both(m != b, is_and(t, m)))
+}

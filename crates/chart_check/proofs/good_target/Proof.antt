@@ -1,0 +1,32 @@
+-- `chart_check::good_target` meets its contract: what it returns is what its callees say. Assumes nothing.
+use borrow.Author.Tests.{not-true, not-false}
+use mathlib.Core.Path.{_≡_, refl}
+use denote.Ref.{now}
+use Rattle.chart.specs.View.{view, andState?}
+use Rattle.chart_rules.specs.Rules.{aim}
+use Rattle.chart_rules.specs.Tests.{goodTarget?}
+use borrow.Author.Needs.{needs}
+use Rattle.chart_check.proofs.good_target.Statement.{statement}
+use Rattle.chart_check.proofs.good_target.Tie as tie
+
+returns : tie.Need-returns
+unfolding goodTarget?
+returns c =
+    let s = c .before .before .before .before .args in
+    let v = view (now (s .t)) in
+    let e : andState? v (aim v (s .k) (s .i)) ≡ c .before .is-and-state .result = cc in
+    rw (e, not-true (c .before .is-and-state .result) (c .if1 .taken)) refl
+
+returns-2 : tie.Need-returns-2
+unfolding goodTarget?
+returns-2 c =
+    let s = c .before .before .before .before .before .args in
+    let v = view (now (s .t)) in
+    let e : andState? v (aim v (s .k) (s .i)) ≡ c .before .before .is-and-state .result = cc in
+    rw (e, not-false (c .before .before .is-and-state .result) (c .before .if1 .left)) (c .apart-from .ensures)
+
+pub good-target-spec : {M : Type 1} → statement M
+good-target-spec =
+    tie.close
+    (tie.spec
+    (λ c κs. search needs) (λ c κs. search needs) returns (λ c κs. search needs) returns-2)

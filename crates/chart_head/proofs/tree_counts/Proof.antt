@@ -1,0 +1,14 @@
+-- `chart_head::tree_counts` meets its contract: what it returns is what its callees say. Assumes nothing.
+use borrow.Author.Needs.{needs}
+use Rattle.chart_head.proofs.tree_counts.Statement.{statement}
+use Rattle.chart_head.proofs.tree_counts.Tie as tie
+
+returns : tie.Need-returns
+returns c = cc
+
+pub tree-counts-spec : {M : Type 1} → statement M
+tree-counts-spec =
+    tie.close
+    (tie.spec
+    (λ c κs. search needs) (λ c κs. search needs) (λ c κs. search needs) (λ c κs. search needs)
+    (λ c κs. search needs) returns)

@@ -1,0 +1,14 @@
+-- `chart_rules::inner_place` meets its contract: what it returns is what its callees say. Assumes nothing.
+use borrow.Author.Needs.{needs}
+use Rattle.chart_rules.proofs.inner_place.Statement.{statement}
+use Rattle.chart_rules.proofs.inner_place.Tie as tie
+
+returns : tie.Need-returns
+returns c = cc
+
+pub inner-place-spec : {M : Type 1} → statement M
+inner-place-spec =
+    tie.close
+    (tie.spec
+    (λ c κs. search needs) (λ c κs. search needs) (λ c κs. search needs) (λ c κs. search needs)
+    (λ c κs. search needs) (λ c κs. search needs) (λ c κs. search needs) returns)

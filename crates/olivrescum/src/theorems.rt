@@ -1,0 +1,24 @@
+// What is proved of the promises and of the definitions that they stand on. Each function does nothing: its contract is
+// the theorem. specs/Theorems.antt has the statements.
+ghost use Rattle.words.specs.Adds.{Adds};
+ghost use Rattle.olivrescum.specs.Theorems.{AcceptedExactly, RefusedAtLowest, CheckDeterminate};
+
+// A chart table is accepted exactly when it keeps the rules.
+pub fn accepted_exactly()
+    ensures { λ r. ⌜ AcceptedExactly ⌝ }
+{}
+
+// A refused chart table is answered with the lowest rule that it breaks, at the lowest place.
+pub fn refused_at_lowest()
+    ensures { λ r. ⌜ RefusedAtLowest ⌝ }
+{}
+
+// What is promised of check_chart leaves it one answer.
+pub fn check_determinate()
+    ensures { λ r. ⌜ CheckDeterminate ⌝ }
+{}
+
+// The document's examples on adds.
+pub fn adds()
+    ensures { λ r. ⌜ Adds ⌝ }
+{}

@@ -1,0 +1,15 @@
+-- Sections without gaps: where one ends, the next begins.
+use Prim.Native.Nat.{ℕ, _+_, _*_}
+use mathlib.Core.Path.{_≡_}
+use mathlib.Core.Bool.{Bool}
+use mathlib.Core.List.{List}
+use lib.ListN.{getD}
+use lib.Dec.{eqb}
+
+-- The section at offset word `next` begins where the one at offset word `here` ends, which has as many records of `size`
+-- words as word `count` says.
+abbrev pub Follows : List ℕ → ℕ → ℕ → ℕ → ℕ → Type 0
+Follows t next here size count = getD t next 0 ≡ getD t here 0 + size * getD t count 0
+
+abbrev pub follows? : List ℕ → ℕ → ℕ → ℕ → ℕ → Bool
+follows? t next here size count = eqb (getD t next 0) (getD t here 0 + size * getD t count 0)

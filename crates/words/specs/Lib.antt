@@ -1,0 +1,4 @@
+-- What words mean, and how loops are said. `Signed` has the two adds, `Adds` 01's examples on them, `Loops` the loops.
+pub mod Signed
+pub mod Adds
+pub mod Loops
