@@ -8,7 +8,7 @@ use native.Mathlib.Omega.{arith}
 use lib.ListN.{length, getD, List·getD-eq-default}
 use lib.Dec.{eqb, ltb}
 use Rattle.words.specs.Loops.{tab}
-use Rattle.words.proofs.Tests.{by-bool, clash, eqb-eq, eqb-ne, eqb-no, eqb-self, or-l, or-second, and-l, and-r, ltb-lt, ltb-ge}
+use Rattle.words.proofs.Tests.{by-bool, clash, eqb-eq, eqb-ne, eqb-no, eqb-self, or-l, or-second, and-l, and-r, ltb-lt, ltb-ge, ltb-yes, ltb-no}
 use Rattle.words.proofs.Loops.{tab-length, tab-at, tab-same}
 use Rattle.chart.specs.View.{Chart}
 use Rattle.chart.specs.Tree.{withinAt, within}
@@ -53,3 +53,20 @@ le-by c a (suc f) j l h e =
 
 pub within-le : (c : Chart) (a j : ℕ) → j < c .states → within c a j ≡ true → a ≤ j
 within-le c a j = le-by c a (suc j) j (le-refl (suc j))
+
+-- going up one step from a state that is not the one looked for
+module _ (c : Chart) (a j : ℕ) (l : a < j) (h : j < c .states) where
+  up-one : within c a j ≡ (ltb (c .parent j) j && within c a (c .parent j))
+  up-one = within-step c a j h (λ z. omega arith) ∙ rw (eqb-no {m = a} {n = j} (λ z. omega arith)) refl
+
+  pub within-up : c .parent j < j → within c a j ≡ within c a (c .parent j)
+  within-up p = up-one ∙ rw (ltb-yes (c .parent j) j p) refl
+
+  pub within-stuck : j ≤ c .parent j → within c a j ≡ false
+  within-stuck p = up-one ∙ rw (ltb-no (c .parent j) j p) refl
+
+-- what is not below: the state itself, or none
+pub within-end : (c : Chart) (a j : ℕ) → j ≤ a → j < c .states → within c a j ≡ eqb a j
+within-end c a j l h =
+    by-bool (eqb a j) (λ e. ap (λ (k : ℕ). within c k j) (eqb-eq a j e) ∙ within-self c j h ∙ sym e)
+    (λ e. by-bool (within c a j) (λ w. absurd (eqb-ne a j e (let z : a ≡ j = omega (arith, within-le c a j h w) in z))) (λ w. w ∙ sym e))

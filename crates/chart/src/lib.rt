@@ -3,7 +3,8 @@
 ghost use mathlib.Core.Path.{_≡_};
 ghost use Prim.Native.Nat.{_+_, _*_, _<_};
 ghost use Rattle.chart.specs.View.{at, view, isAnd, andState?, childOf?, stateAt, transitionAt};
-ghost use Rattle.chart.specs.Tree.{meeting, apart};
+ghost use Rattle.chart.specs.Literals.{literalOf, literalIn};
+ghost use Rattle.chart.specs.Tree.{within, meeting, apart};
 
 // Header words: the total, the counts, and the offsets of the sections.
 pub const TOTAL: usize = 1;
@@ -103,6 +104,39 @@ pub fn target_word(t: &[u16], i: usize) -> usize
     words::number(t, words::number(t, TARGETS_AT) + i)
 }
 
+// What a literal asks: a state active or not, a variable at least or less than a number.
+pub enum Literal {
+    Active(u16),
+    NotActive(u16),
+    AtLeast(u16, u16),
+    Less(u16, u16),
+}
+
+// The literal of three words.
+fn literal_of(kind: u16, a: u16, b: u16) -> Literal
+    ensures { λ r. ⌜ r ≡ literalOf kind a b ⌝ }
+{
+    match kind {
+        0 => Literal::Active(a),
+        1 => Literal::NotActive(a),
+        2 => Literal::AtLeast(a, b),
+        _ => Literal::Less(a, b),
+    }
+}
+
+// Literal i.
+pub fn literal_at(t: &[u16], i: usize) -> Literal
+    requires { ⌜ i < 1000000 ⌝ }
+    ensures { λ r. ⌜ r ≡ literalIn (view (now (t .entry)) .literal i) ⌝ }
+{
+    let at = words::number(t, LITERALS_AT) + 3 * i;
+    literal_of(
+        words::word(t, at),
+        words::word(t, at + 1),
+        words::word(t, at + 2),
+    )
+}
+
 // Whether state k is an and-state.
 pub fn is_and(t: &[u16], k: usize) -> bool
     requires { ⌜ k < 1000000 ⌝ }
@@ -157,6 +191,24 @@ fn meeting_of(t: &[u16], a: usize, b: usize) -> usize
         }
     }
     x
+}
+
+// Whether state j is a, or below it.
+pub fn is_within(t: &[u16], a: usize, j: usize) -> bool
+    ensures { λ r. ⌜ r ≡ within (view (now (t .entry))) a j ⌝ }
+{
+    if words::number(t, STATES) <= j {
+        return false;
+    }
+    let mut x = j;
+    while a < x {
+        let up = state_word(t, x, PARENT);
+        if x <= up {
+            return false;
+        }
+        x = up;
+    }
+    a == x
 }
 
 // Whether two targets are apart: distinct, neither above the other, and met in an and-state.

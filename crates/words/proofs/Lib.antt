@@ -4,3 +4,4 @@ pub mod Signed
 pub mod Tests
 pub mod Loops
 pub mod Tells
+pub mod Many

@@ -33,6 +33,12 @@ module _ {A : Type 0} where
   any p [] = false
   any p (x ∷ xs) = p x || any p xs
 
+module _ {A B : Type 0} where
+  -- f of each member, joined.
+  abbrev pub joined : (A → List B) → List A → List B
+  joined f [] = []
+  joined f (x ∷ xs) = f x ++ joined f xs
+
 -- Every number below n passes, and some number does.
 abbrev pub allBelow : (ℕ → Bool) → ℕ → Bool
 allBelow p zero = true
@@ -41,6 +47,11 @@ allBelow p (suc n) = allBelow p n && p n
 abbrev pub anyBelow : (ℕ → Bool) → ℕ → Bool
 anyBelow p zero = false
 anyBelow p (suc n) = anyBelow p n || p n
+
+-- x alone where the test holds, else nothing.
+abbrev pub when {ℓ} : {A : Type ℓ} → Bool → A → List A
+when true x = x ∷ []
+when false x = []
 
 -- How many numbers below n pass.
 abbrev pub rank : (ℕ → Bool) → ℕ → ℕ
