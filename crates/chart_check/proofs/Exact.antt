@@ -1,98 +1,67 @@
 -- A chart table is accepted just where it keeps 01's rules. Assumes nothing.
 use Prim.Native.Nat.{ℕ, _+_, _-_, _<_}
-use mathlib.Core.Path.{_≡_, refl, sym, ap, _∙_}
-use mathlib.Core.Logic.{_≢_}
-use mathlib.Core.Bool.{true}
+use mathlib.Core.Path.{_≡_, subst}
 use mathlib.Core.List.{List}
 use native.Mathlib.Omega.{arith}
 use lib.Dec.{ltb}
-use Rattle.words.proofs.Tests.{by-bool, ltb-yes, ltb-lt, ltb-no, ltb-ge}
-use Rattle.table.proofs.Check.{AllKept, none, also, each, gather, accepted, accepting}
-use Rattle.table.proofs.Items.{item-told, item-tells}
-use Rattle.chart.specs.View.{Chart, view, countsOf}
-use Rattle.chart_head.specs.Rules.{GoodCounts}
-use Rattle.chart_rules.specs.Rules.{GoodPlace, root, or-state, and-state, GoodBody}
-use Rattle.chart_rules.specs.Rules.{GoodStateSpans, GoodTransitionSpans, ChartRules}
-use Rattle.chart_rules.specs.Tests.{goodState?, goodStateSpans?, goodTransitionSpans?, goodSpans?}
+use Rattle.words.specs.Logic.{Iff}
+use Rattle.words.proofs.Tests.{by-bool, ltb-lt, ltb-ge}
+use Rattle.table.specs.Check.{ruleAt, Kept}
+use Rattle.table.proofs.Check.{AllKept, none, also, each, accepted, accepting}
+use Rattle.chart.specs.View.{view}
+use Rattle.chart_rules.specs.Rules.{GoodPlace, ChartRules}
 use Rattle.chart_check.specs.Answer.{chartRules, chartAnswer}
-use Rattle.words.proofs.Tells.{Tells, _and_}
-use Rattle.chart_check.proofs.Told.{form, counts, layout, place, body, state-spans, transition-spans, literal, source}
-use Rattle.chart_check.proofs.Told.{targets}
+use Rattle.chart_check.specs.RuleByRule.{Keeps, RulesNumbered}
+use Rattle.chart_check.proofs.RuleByRule.{numbered}
 
--- ---- what the rules of one chart say together
-module _ (c : Chart) where
-  pub some-state : GoodCounts c → 0 < c .states
-  some-state g = omega (arith, g .states .0)
-
-  pub parent-smaller : (j : ℕ) → GoodPlace c j → j ≢ 0 → c .parent j < j
-  parent-smaller _ (root p q) z = absurd (z refl)
-  parent-smaller j (or-state _ _ l _) z = l
-  parent-smaller j (and-state _ _ l _) z = l
-
-  state : (k : ℕ) → Tells (goodState? c k) (GoodPlace c k × GoodBody c k)
-  state k = place c k and body c k
-
-  -- rule 5: the places of the states, and then those of the transitions
-  state-place : (k : ℕ) → k < c .states → goodSpans? c k ≡ goodStateSpans? c k
-  unfolding goodSpans?
-  state-place k h = rw (ltb-yes k (c .states) h)
-
-  transition-place : (p k : ℕ) → p ≡ c .states + k → goodSpans? c p ≡ goodTransitionSpans? c k
-  unfolding goodSpans?
-  transition-place p k e =
-      let left : p - c .states ≡ k = omega arith in
-      rw (ltb-no p (c .states) (omega arith)) (ap (goodTransitionSpans? c) left)
-
-  spans-tell : ((k : ℕ) → k < c .states → GoodStateSpans c k)
-      → ((k : ℕ) → k < c .transitions → GoodTransitionSpans c k)
-      → (p : ℕ) → p < c .states + c .transitions → goodSpans? c p ≡ true
-  spans-tell s t p h =
-      by-bool (ltb p (c .states))
-      (λ e. let l = ltb-lt p (c .states) e in state-place p l ∙ state-spans c p .tells (s p l))
-      (λ e. let l = ltb-ge p (c .states) e in
-      let k = p - c .states in
-      transition-place p k (omega arith) ∙ transition-spans c k .tells (t k (omega arith)))
-
--- ---- all rules
 module _ (t : List ℕ) where
-  kept-rules : AllKept (chartRules t) → ChartRules t
-  kept-rules (also f (also n (also l (also s (also p (also q (also m (also o (also a none))))))))) =
-      let c = view t in
-      let g = counts c .told (n 0 (omega arith)) in
-      let places : (k : ℕ) → k < c .states → GoodPlace c k = λ k h. state c k .told (s k h) .0 in
+  rule : RulesNumbered t
+  rule = numbered t
+
+  kept-rules : ((k : ℕ) → k < 9 → Kept (ruleAt (chartRules t) k)) → ChartRules t
+  kept-rules kept =
+      let counts = rule .counts .0 (kept 1 (omega arith) 0 (omega arith)) in
+      let places : (k : ℕ) → k < view t .states → GoodPlace (view t) k = λ k h. rule .tree k h .0 (kept 3 (omega arith) k h) .0 in
       record {
-        form = form t .told (f 0 (omega arith));
-        counts = g;
-        layout = layout t .told (l 0 (omega arith));
+        form = rule .form .0 (kept 0 (omega arith) 0 (omega arith));
+        counts = counts;
+        layout = rule .layout .0 (kept 2 (omega arith) 0 (omega arith));
         places = places;
-        bodies = λ k h. state c k .told (s k h) .1;
-        state-spans = λ k h. state-spans c k .told (sym (state-place c k h) ∙ p k (omega arith));
-        transition-spans = λ k h.
-            let i = c .states + k in transition-spans c k .told (sym (transition-place c i k refl) ∙ p i (omega arith));
-        literals = λ i h. literal c (c .literal i .kind) (c .literal i .a) (c .literal i .b) .told (q i h);
-        items = λ i h. item-told (countsOf c) (c .item i .kind) (c .item i .a) (c .item i .b) (m i h);
-        sources = λ k h. source c k .told (o k h);
-        targets = λ k h. targets c (some-state c g) (λ j i. parent-smaller c j (places j i)) k .told (a k h);
+        bodies = λ k h. rule .tree k h .0 (kept 3 (omega arith) k h) .1;
+        state-spans = λ k h. rule .state-spans k h .0 (kept 4 (omega arith) k (omega arith));
+        transition-spans = λ k h. rule .transition-spans k h .0 (kept 4 (omega arith) (view t .states + k) (omega arith));
+        literals = λ i h. rule .literals i h .0 (kept 5 (omega arith) i h);
+        items = λ i h. rule .items i h .0 (kept 6 (omega arith) i h);
+        sources = λ k h. rule .sources k h .0 (kept 7 (omega arith) k h);
+        targets = λ k h. rule .targets counts places k h .0 (kept 8 (omega arith) k h);
       }
+
+  -- a place of rule 5 is a state's, or n + a transition's
+  spans-kept : ChartRules t → (p : ℕ) → p < view t .states + view t .transitions → Keeps t 4 p
+  spans-kept g p h =
+      by-bool (ltb p (view t .states))
+      (λ e. let l = ltb-lt p (view t .states) e in rule .state-spans p l .1 (g .state-spans p l))
+      (λ e. let l = ltb-ge p (view t .states) e in
+      let k = p - view t .states in
+      let place : view t .states + k ≡ p = omega arith in
+      let i : k < view t .transitions = omega arith in
+      subst (Keeps t 4) place (rule .transition-spans k i .1 (g .transition-spans k i)))
 
   rules-kept : ChartRules t → AllKept (chartRules t)
   rules-kept g =
-      let c = view t in
-      let grows : (j : ℕ) → j < c .states → j ≢ 0 → c .parent j < j = λ j i. parent-smaller c j (g .places j i) in
-      also (λ i h. form t .tells (g .form))
-      (also (λ i h. counts c .tells (g .counts))
-      (also (λ i h. layout t .tells (g .layout))
-      (also (λ k h. state c k .tells (g .places k h, g .bodies k h))
-      (also (spans-tell c (g .state-spans) (g .transition-spans))
-      (also (λ i h. literal c (c .literal i .kind) (c .literal i .a) (c .literal i .b) .tells (g .literals i h))
-      (also (λ i h. item-tells (countsOf c) (c .item i .kind) (c .item i .a) (c .item i .b) (g .items i h))
-      (also (λ k h. source c k .tells (g .sources k h))
-      (also (λ k h. targets c (some-state c (g .counts)) grows k .tells (g .targets k h)) none))))))))
+      also (λ i h. rule .form .1 (g .form))
+      (also (λ i h. rule .counts .1 (g .counts))
+      (also (λ i h. rule .layout .1 (g .layout))
+      (also (λ k h. rule .tree k h .1 (g .places k h, g .bodies k h))
+      (also (spans-kept g)
+      (also (λ i h. rule .literals i h .1 (g .literals i h))
+      (also (λ i h. rule .items i h .1 (g .items i h))
+      (also (λ k h. rule .sources k h .1 (g .sources k h))
+      (also (λ k h. rule .targets (g .counts) (g .places) k h .1 (g .targets k h)) none))))))))
 
-  pub accepted-rules : chartAnswer t ≡ (0, 0) → ChartRules t
+  pub exact : Iff (chartAnswer t ≡ (0, 0)) (ChartRules t)
   unfolding chartAnswer
-  accepted-rules e = kept-rules (gather (chartRules t) (accepted 1 (chartRules t) (omega arith) e))
-
-  pub rules-accepted : ChartRules t → chartAnswer t ≡ (0, 0)
-  unfolding chartAnswer
-  rules-accepted g = accepting 1 (chartRules t) (omega arith) (each (rules-kept g))
+  exact = (
+    λ e. kept-rules (accepted 1 (chartRules t) (omega arith) e),
+    λ g. accepting 1 (chartRules t) (omega arith) (each (rules-kept g)),
+  )

@@ -41,6 +41,14 @@ pub data GoodLiteral (c : Chart) : ℕ → ℕ → ℕ → Type 0 where
   at-least : {a b : ℕ} → a < c .variables → GoodLiteral c 2 a b
   less : {a b : ℕ} → a < c .variables → GoodLiteral c 3 a b
 
+-- Rule 6 for literal i.
+abbrev pub LiteralKept : Chart → ℕ → Type 0
+LiteralKept c i = GoodLiteral c (c .literal i .kind) (c .literal i .a) (c .literal i .b)
+
+-- Rule 7 for item i; `GoodItem` of table/specs/Rows says it.
+abbrev pub ItemKept : Chart → ℕ → Type 0
+ItemKept c i = GoodItem (countsOf c) (c .item i .kind) (c .item i .a) (c .item i .b)
+
 -- Rule 8. 01, Tree: "The source is an and-state"; Transition: "Triggers 0..e-1 are events; signal k is trigger e+k".
 pub record GoodSource (c : Chart) (k : ℕ) : Type 0 where
   pub source-in : c .source k < c .states
@@ -68,7 +76,7 @@ pub record ChartRules (t : List ℕ) : Type 0 where
   pub bodies : (k : ℕ) → k < view t .states → GoodBody (view t) k
   pub state-spans : (k : ℕ) → k < view t .states → GoodStateSpans (view t) k
   pub transition-spans : (k : ℕ) → k < view t .transitions → GoodTransitionSpans (view t) k
-  pub literals : (i : ℕ) → i < view t .literals → GoodLiteral (view t) (view t .literal i .kind) (view t .literal i .a) (view t .literal i .b)
-  pub items : (i : ℕ) → i < view t .items → GoodItem (countsOf (view t)) (view t .item i .kind) (view t .item i .a) (view t .item i .b)
+  pub literals : (i : ℕ) → i < view t .literals → LiteralKept (view t) i
+  pub items : (i : ℕ) → i < view t .items → ItemKept (view t) i
   pub sources : (k : ℕ) → k < view t .transitions → GoodSource (view t) k
   pub targets : (k : ℕ) → k < view t .transitions → GoodTargets (view t) k

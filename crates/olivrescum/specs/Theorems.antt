@@ -2,20 +2,30 @@
 use Prim.Native.Nat.{ℕ}
 use mathlib.Core.Path.{_≡_}
 use mathlib.Core.List.{List}
+use Rattle.words.specs.Logic.{Iff}
 use Rattle.table.specs.Check.{Judged}
 use Rattle.table.specs.declared.Verdict.{Verdict}
 use Rattle.chart_rules.specs.Rules.{ChartRules}
 use Rattle.chart_check.specs.Answer.{chartRules, chartAnswer}
+use Rattle.chart_check.specs.RuleByRule.{RulesNumbered}
 use Rattle.olivrescum.specs.Promises.{ChartChecked}
 
 -- Demand 2: "A chart table is accepted exactly when it keeps 01's rules."
 abbrev pub AcceptedExactly : Type 0
-AcceptedExactly = (chart : List ℕ) → (chartAnswer chart ≡ (0, 0) → ChartRules chart) × (ChartRules chart → chartAnswer chart ≡ (0, 0))
+AcceptedExactly = (chart : List ℕ) → Iff (chartAnswer chart ≡ (0, 0)) (ChartRules chart)
 
 -- 01, Order: "the table by rising number and then lowest place". `Judged` says that no rule before the one reported is
 -- broken anywhere, and that one at no place before the one reported.
 abbrev pub RefusedAtLowest : Type 0
 RefusedAtLowest = (chart : List ℕ) → Judged 1 (chartRules chart) (chartAnswer chart)
+
+-- 01, What a call can say: each row has its number and its places. "1 chart: shorter than its header, wrong form, total not
+-- the slice's length", "2 a header count out of range" and "3 an offset or the total off the layout", at place 0; "4 kind or
+-- tree", at the state; "5 a span beyond its section, over 8 literals", at the "state, or n + transition"; "6 a literal", at
+-- the literal; "7 an item", at the item; "8 source or trigger" and "9 targets", at the transition. `RulesNumbered` says
+-- these nine, one after the other, of the rules that `Judged` speaks of.
+abbrev pub RuleByRule : Type 0
+RuleByRule = (chart : List ℕ) → RulesNumbered chart
 
 -- 01, What the promises say: "inputs determine the answer".
 abbrev pub CheckDeterminate : Type 0

@@ -1,7 +1,7 @@
 // What is proved of the promises and of the definitions that they stand on. Each function does nothing: its contract is
 // the theorem. specs/Theorems.antt has the statements.
 ghost use Rattle.words.specs.Adds.{Adds};
-ghost use Rattle.olivrescum.specs.Theorems.{AcceptedExactly, RefusedAtLowest, CheckDeterminate};
+ghost use Rattle.olivrescum.specs.Theorems.{AcceptedExactly, RefusedAtLowest, RuleByRule, CheckDeterminate};
 
 // A chart table is accepted exactly when it keeps the rules.
 pub fn accepted_exactly()
@@ -11,6 +11,11 @@ pub fn accepted_exactly()
 // A refused chart table is answered with the lowest rule that it breaks, at the lowest place.
 pub fn refused_at_lowest()
     ensures { λ r. ⌜ RefusedAtLowest ⌝ }
+{}
+
+// Each rule has the number and the places that the document gives it.
+pub fn rule_by_rule()
+    ensures { λ r. ⌜ RuleByRule ⌝ }
 {}
 
 // What is promised of check_chart leaves it one answer.

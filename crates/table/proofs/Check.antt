@@ -1,17 +1,16 @@
 -- The answer to a list of rules is the lowest one that is broken, at its lowest place. Assumes nothing.
 use Prim.Native.Nat.{ℕ, zero, suc, _+_, _<_, _≤_}
-use mathlib.Core.Path.{_≡_, refl, sym, ap, _∙_, subst}
+use mathlib.Core.Path.{_≡_, refl, ap, _∙_, subst}
 use mathlib.Core.Bool.{Bool, true, false, cond}
 use mathlib.Core.List.{List, [], _∷_}
 use native.Mathlib.Nat.{not-suc-le-zero}
 use native.Mathlib.Omega.{arith}
 use native.Mathlib.Numerals.{add-one}
 use lib.Dec.{ltb}
-use lib.ListN.{length, getD, drop}
+use lib.ListN.{length, drop}
 use lib.Seq.{drop-cons}
-use Rattle.words.proofs.Tests.{by-bool, last-or, ltb-lt, ltb-yes, ltb-ge, ltb-no, clash}
+use Rattle.words.proofs.Tests.{ltb-lt, ltb-yes, ltb-ge, ltb-no, clash}
 use Rattle.words.proofs.Loops.{Lowest, lowest}
-use Rattle.words.specs.Loops.{firstBad}
 use Rattle.table.specs.Check.{Rule, noRule, ruleAt, lowestBad, answer, Kept, LowestBroken, Judged, all-kept, lowest-broken}
 
 -- ---- for the loop that goes through the rules
@@ -100,7 +99,3 @@ pub each : {rs : List Rule} → AllKept rs → (k : ℕ) → k < length rs → K
 each none k l = absurd (not-suc-le-zero l)
 each (also h hs) zero l = h
 each (also h hs) (suc k) l = each hs k (omega arith)
-
-pub gather : (rs : List Rule) → ((k : ℕ) → k < length rs → Kept (ruleAt rs k)) → AllKept rs
-gather [] h = none
-gather (r ∷ rs) h = also (h 0 (omega arith)) (gather rs (λ k l. h (suc k) (omega arith)))

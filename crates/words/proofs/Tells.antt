@@ -5,6 +5,7 @@ use mathlib.Core.Bool.{Bool, true, not, _&&_, cond}
 use mathlib.Core.Logic.{_⊎_, inl, inr, ⊎-elim}
 use native.Mathlib.Omega.{arith}
 use lib.Dec.{eqb, ltb, leb, leb→le, nleb→lt}
+use Rattle.words.specs.Logic.{Iff}
 use Rattle.words.specs.Loops.{allBelow}
 use Rattle.words.proofs.Tests.{by-bool, eqb-yes, eqb-eq, ltb-yes, ltb-lt, and-l, and-r, and-i, not-yes, not-no, clash}
 use Rattle.words.proofs.Loops.{allBelow-at, allBelow-all}
@@ -12,6 +13,9 @@ use Rattle.words.proofs.Loops.{allBelow-at, allBelow-all}
 pub record Tells (test : Bool) (X : Type 0) : Type 0 where
   pub told : test ≡ true → X
   pub tells : X → test ≡ true
+
+pub iff : {b : Bool} {X : Type 0} → Tells b X → Iff (b ≡ true) X
+iff t = (t .told, t .tells)
 
 pub eq : (m n : ℕ) → Tells (eqb m n) (m ≡ n)
 eq m n = record { told = eqb-eq m n; tells = eqb-yes {m = m} {n = n} }

@@ -1,4 +1,6 @@
--- What words mean, and how loops are said. `Signed` has the two adds, `Adds` 01's examples on them, `Loops` the loops.
+-- What words mean, and how loops are said. `Signed` has the two adds, `Adds` 01's examples on them, `Loops` the loops;
+-- `Logic` is for the wording of statements.
+pub mod Logic
 pub mod Signed
 pub mod Adds
 pub mod Loops

@@ -1,81 +1,25 @@
 -- Each test of specs/Tests.antt tells its rule of specs/Rules.antt. Assumes nothing.
-use Prim.Native.Nat.{ℕ, zero, suc, _+_, _*_, _<_, _≤_}
+use Prim.Native.Nat.{ℕ, zero, suc, _+_, _-_, _<_, _≤_}
 use mathlib.Core.Path.{_≡_, refl}
 use mathlib.Core.Logic.{_≢_, _⊎_, inl, inr, ⊎-elim}
 use mathlib.Core.Bool.{true, _&&_}
-use mathlib.Core.List.{List}
 use native.Mathlib.Omega.{arith}
-use lib.ListN.{length}
-use lib.Dec.{eqb, ltb}
-use Rattle.words.specs.Loops.{between?}
-use Rattle.words.proofs.Tests.{ltb-yes, ltb-lt}
-use Rattle.table.specs.Span.{Span, Inside, inside?}
-use Rattle.table.specs.Layout.{Follows, follows?}
-use Rattle.chart.specs.View.{Chart, at, isAnd, andState?, IsAnd, IsOr}
-use Rattle.chart.specs.Tree.{apart}
-use Rattle.chart_head.specs.Rules.{GoodForm, Between, GoodCounts, GoodLayout}
-use Rattle.chart_head.specs.Tests.{goodForm?, goodCounts?, goodLayout?}
-use Rattle.chart_rules.specs.Rules.{GoodPlace, root, or-state, and-state}
-use Rattle.chart_rules.specs.Rules.{GoodBody, GoodStateSpans, GoodTransitionSpans, GoodSource, aim, GoodTargets}
-use Rattle.chart_rules.specs.Rules.{GoodLiteral, active, not-active, at-least, less}
-use Rattle.chart_rules.specs.Tests.{goodPlace?, goodBody?}
-use Rattle.chart_rules.specs.Tests.{goodStateSpans?, goodTransitionSpans?, goodLiteral?, goodSource?}
-use Rattle.chart_rules.specs.Tests.{apartFrom?, goodTarget?, goodTargets?}
-use Rattle.chart.proofs.Tree.{apart-told, apart-tells}
+use lib.Dec.{eqb}
+use Rattle.words.proofs.Tests.{ltb-yes, ltb-lt, ltb-no}
 use Rattle.words.proofs.Tells.{Tells, eq, lt, le, itself, said, _and_, not-so, choose, every}
-
--- ---- rules 1 to 3
-pub form : (t : List ℕ) → Tells (goodForm? t) (GoodForm t)
-unfolding goodForm?
-form t =
-    said (le 16 (length t) and eq (at t 0) 1 and eq (at t 1) (length t))
-    (λ r. record { header = r .0; form = r .1 .0; total = r .1 .1 })
-    (λ g. (g .header, (g .form, g .total)))
-
-between : (low high x : ℕ) → Tells (between? low high x) (Between low high x)
-between low high x = le low x and le x high
-
-pub counts : (c : Chart) → Tells (goodCounts? c) (GoodCounts c)
-unfolding goodCounts?
-counts c =
-    said
-    ((between 2 48 (c .states) and between 0 48 (c .transitions) and between 1 32 (c .events))
-    and (between 0 32 (c .signals) and between 0 64 (c .outputs) and between 0 16 (c .variables))
-    and between 0 192 (c .targets) and between 0 192 (c .literals) and between 0 512 (c .items))
-    (λ r. record {
-      states = r .0 .0;
-      transitions = r .0 .1 .0;
-      events = r .0 .1 .1;
-      signals = r .1 .0 .0;
-      outputs = r .1 .0 .1 .0;
-      variables = r .1 .0 .1 .1;
-      targets = r .1 .1 .0;
-      literals = r .1 .1 .1 .0;
-      items = r .1 .1 .1 .1;
-    })
-    (λ g. (
-      (g .states, (g .transitions, g .events)),
-      ((g .signals, (g .outputs, g .variables)), (g .targets, (g .literals, g .items))),
-    ))
-
-follow : (t : List ℕ) (next here size count : ℕ) → Tells (follows? t next here size count) (Follows t next here size count)
-follow t next here size count = eq (at t next) (at t here + size * at t count)
-
-pub layout : (t : List ℕ) → Tells (goodLayout? t) (GoodLayout t)
-unfolding goodLayout?
-layout t =
-    said
-    ((eq (at t 11) 16 and follow t 12 11 7 2 and follow t 13 12 8 3)
-    and follow t 14 13 1 8 and follow t 15 14 3 9 and follow t 1 15 3 10)
-    (λ r. record {
-      states = r .0 .0;
-      transitions = r .0 .1 .0;
-      targets = r .0 .1 .1;
-      literals = r .1 .0;
-      items = r .1 .1 .0;
-      total = r .1 .1 .1;
-    })
-    (λ g. ((g .states, (g .transitions, g .targets)), (g .literals, (g .items, g .total))))
+use Rattle.table.specs.Span.{Span, Inside, inside?}
+use Rattle.table.proofs.Items as Items
+use Rattle.chart.specs.View.{Chart, countsOf, isAnd, andState?, IsAnd, IsOr}
+use Rattle.chart.specs.Tree.{apart}
+use Rattle.chart.proofs.Tree.{apart-told, apart-tells}
+use Rattle.chart_head.specs.Rules.{GoodCounts}
+use Rattle.chart_rules.specs.Rules.{GoodPlace, root, or-state, and-state}
+use Rattle.chart_rules.specs.Rules.{GoodBody, GoodStateSpans, GoodTransitionSpans, GoodSource, aim, GoodTargets}
+use Rattle.chart_rules.specs.Rules.{GoodLiteral, active, not-active, at-least, less, LiteralKept, ItemKept}
+use Rattle.chart_rules.specs.Tests.{goodPlace?, goodBody?, goodState?}
+use Rattle.chart_rules.specs.Tests.{goodStateSpans?, goodTransitionSpans?, goodSpans?}
+use Rattle.chart_rules.specs.Tests.{goodLiteral?, literalKept, itemKept, goodSource?}
+use Rattle.chart_rules.specs.Tests.{apartFrom?, goodTarget?, goodTargets?}
 
 -- ---- rule 4
 module _ (c : Chart) where
@@ -124,17 +68,20 @@ module _ (c : Chart) where
       (λ r. GoodBody.or-state (r .0) (r .1 .0 .0) (r .1 .0 .1) (r .1 .1 .0) (r .1 .1 .1)))
       (elim [ or-state o l p x y ↦ inr (o, ((l, p), (x, y))) | and-state a i ↦ inl (a, i) ])
 
+  pub state : (k : ℕ) → Tells (goodState? c k) (GoodPlace c k × GoodBody c k)
+  state k = place k and body k
+
   -- ---- rule 5
   inside : (s : Span) (size : ℕ) → Tells (inside? s size) (Inside s size)
   inside s size = le (s .first + s .count) size
 
-  pub state-spans : (k : ℕ) → Tells (goodStateSpans? c k) (GoodStateSpans c k)
+  state-spans : (k : ℕ) → Tells (goodStateSpans? c k) (GoodStateSpans c k)
   unfolding goodStateSpans?
   state-spans k =
       said (inside (c .exits k) (c .items) and inside (c .entries k) (c .items))
       (λ r. record { exits = r .0; entries = r .1 }) (λ g. (g .exits, g .entries))
 
-  pub transition-spans : (k : ℕ) → Tells (goodTransitionSpans? c k) (GoodTransitionSpans c k)
+  transition-spans : (k : ℕ) → Tells (goodTransitionSpans? c k) (GoodTransitionSpans c k)
   unfolding goodTransitionSpans?
   transition-spans k =
       said
@@ -142,6 +89,17 @@ module _ (c : Chart) where
       and inside (c .does k) (c .items) and inside (c .aims k) (c .targets))
       (λ r. record { literals = r .0 .0; few-literals = r .0 .1; items = r .1 .0; targets = r .1 .1 })
       (λ g. ((g .literals, g .few-literals), (g .items, g .targets)))
+
+  -- the places of the states, and then those of the transitions
+  pub at-state : (k : ℕ) → k < c .states → Tells (goodSpans? c k) (GoodStateSpans c k)
+  unfolding goodSpans?
+  at-state k h = rw (ltb-yes k (c .states) h) (state-spans k)
+
+  pub at-transition : (k : ℕ) → Tells (goodSpans? c (c .states + k)) (GoodTransitionSpans c k)
+  unfolding goodSpans?
+  at-transition k =
+      let left : c .states + k - c .states ≡ k = omega arith in
+      rw (ltb-no (c .states + k) (c .states) (omega arith), left) (transition-spans k)
 
   -- ---- rule 6
   -- a literal of kind 0 or 1
@@ -166,10 +124,16 @@ module _ (c : Chart) where
   literal-tells _ a b (at-least h) = ltb-yes a (c .variables) h
   literal-tells _ a b (less h) = ltb-yes a (c .variables) h
 
-  pub literal : (kind a b : ℕ) → Tells (goodLiteral? c kind a b) (GoodLiteral c kind a b)
-  literal kind a b = record { told = literal-told kind a b; tells = literal-tells kind a b }
+  pub literal : (i : ℕ) → Tells (literalKept c i) (LiteralKept c i)
+  literal i =
+      let w = c .literal i in
+      record { told = literal-told (w .kind) (w .a) (w .b); tells = literal-tells (w .kind) (w .a) (w .b) }
 
-  -- ---- rules 8 and 9
+  -- ---- rule 7
+  pub item : (i : ℕ) → Tells (itemKept c i) (ItemKept c i)
+  item i = Items.item (countsOf c) (c .item i .kind) (c .item i .a) (c .item i .b)
+
+  -- ---- rule 8
   pub source : (k : ℕ) → Tells (goodSource? c k) (GoodSource c k)
   unfolding goodSource?
   source k =
@@ -177,7 +141,19 @@ module _ (c : Chart) where
       (λ r. record { source-in = r .0 .0; source = r .0 .1; trigger = r .1 })
       (λ g. ((g .source-in, g .source), g .trigger))
 
-  module _ (some : 0 < c .states) (grows : (j : ℕ) → j < c .states → j ≢ 0 → c .parent j < j) where
+  -- ---- rule 9, where rules 2 and 4 are kept
+  parent-smaller : (j : ℕ) → GoodPlace c j → j ≢ 0 → c .parent j < j
+  parent-smaller _ (root p q) z = absurd (z refl)
+  parent-smaller j (or-state _ _ l _) z = l
+  parent-smaller j (and-state _ _ l _) z = l
+
+  module _ (g : GoodCounts c) (places : (j : ℕ) → j < c .states → GoodPlace c j) where
+    some : 0 < c .states
+    some = omega (arith, g .states .0)
+
+    grows : (j : ℕ) → j < c .states → j ≢ 0 → c .parent j < j
+    grows j h = parent-smaller j (places j h)
+
     pub targets : (k : ℕ) → Tells (goodTargets? c k) (GoodTargets c k)
     unfolding goodTargets? goodTarget? apartFrom?
     targets k =
