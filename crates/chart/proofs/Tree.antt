@@ -47,7 +47,7 @@ module _ (c : Chart) (some : 0 < c .states) (grows : (j : ℕ) → j < c .states
       (λ z. let r = eqb-ne j 0 z in
       inr (r, or-second (eqb a j) (within c a (c .parent j)) (sym (within-is a j h r) ∙ w) e)))
 
-  within-parent : (a j : ℕ) → j < c .states → j ≢ 0 → within c a (c .parent j) ≡ true → within c a j ≡ true
+  pub within-parent : (a j : ℕ) → j < c .states → j ≢ 0 → within c a (c .parent j) ≡ true → within c a j ≡ true
   within-parent a j h z w = within-is a j h z ∙ or-r (eqb a j) (within c a (c .parent j)) w
 
   pub all-within-root : (j : ℕ) → j < c .states → within c 0 j ≡ true

@@ -142,15 +142,15 @@ module _ (c : Chart) where
       (λ g. ((g .source-in, g .source), g .trigger))
 
   -- ---- rule 9, where rules 2 and 4 are kept
-  parent-smaller : (j : ℕ) → GoodPlace c j → j ≢ 0 → c .parent j < j
+  pub some-state : GoodCounts c → 0 < c .states
+  some-state g = omega (arith, g .states .0)
+
+  pub parent-smaller : (j : ℕ) → GoodPlace c j → j ≢ 0 → c .parent j < j
   parent-smaller _ (root p q) z = absurd (z refl)
   parent-smaller j (or-state _ _ l _) z = l
   parent-smaller j (and-state _ _ l _) z = l
 
-  module _ (g : GoodCounts c) (places : (j : ℕ) → j < c .states → GoodPlace c j) where
-    some : 0 < c .states
-    some = omega (arith, g .states .0)
-
+  module _ (n : GoodCounts c) (places : (j : ℕ) → j < c .states → GoodPlace c j) where
     grows : (j : ℕ) → j < c .states → j ≢ 0 → c .parent j < j
     grows j h = parent-smaller j (places j h)
 
@@ -165,9 +165,9 @@ module _ (c : Chart) where
           target-in = λ i h. r i h .0 .0;
           target = λ i h. r i h .0 .1;
           any-two = λ i j l h.
-              apart-told c some grows (at j) (at i) (r j (omega arith) .0 .0) (r i h .0 .0) (r i h .1 j l);
+              apart-told c (some-state n) grows (at j) (at i) (r j (omega arith) .0 .0) (r i h .0 .0) (r i h .1 j l);
         })
         (λ g i h.
         let in-j : (j : ℕ) → j < i → at j < c .states = λ j l. g .target-in j (omega arith) in
         let in-i = g .target-in i h in
-        ((in-i, g .target i h), λ j l. apart-tells c some grows (at j) (at i) (in-j j l) in-i (g .any-two i j l h)))
+        ((in-i, g .target i h), λ j l. apart-tells c (some-state n) grows (at j) (at i) (in-j j l) in-i (g .any-two i j l h)))

@@ -1,8 +1,12 @@
--- Laws of what specs/ defines: `Signed` of words as signed numbers, `Adds` 01's examples on the adds, `Tests` of Bool tests,
--- `Loops` of the loops, `Tells` of tests that tell a statement, `Many` of tests of the things in a span.
+-- Laws of what specs/ defines: `Signed` of words as signed numbers, `Adds` 01's examples on adds; `Tests` of Bool tests, `Tells`
+-- of tests that tell a statement; `Loops` and `Many` of the loops, `Lists` of what they gather, `Ranks` of counting; `Smaller`
+-- is strong induction.
 pub mod Signed
 pub mod Adds
 pub mod Tests
-pub mod Loops
 pub mod Tells
+pub mod Loops
 pub mod Many
+pub mod Lists
+pub mod Ranks
+pub mod Smaller

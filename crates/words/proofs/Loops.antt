@@ -127,3 +127,12 @@ lowest ok (suc n) i = go (ok i) refl (lowest ok n (i + 1))
       before = λ k h l. absurd (omega arith);
       fails = λ h. e;
     }
+
+-- ---- how many numbers pass
+module _ (p : ℕ → Bool) where
+  pub rank-most : (n : ℕ) → rank p n ≤ n
+  rank-most zero = le-refl 0
+  rank-most (suc n) = let h = rank-most n in by-bool (p n) (λ e. rw e (omega arith)) (λ e. rw e (omega arith))
+
+  pub rank-next : (n r : ℕ) → r ≡ rank p n → cond (p n) (suc r) r ≡ rank p (n + 1)
+  rank-next n r e = rw (e, add-one n) refl

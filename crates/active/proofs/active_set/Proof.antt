@@ -1,0 +1,63 @@
+-- `active::active_set` meets its contract: the set has the cells of the states passed. Assumes nothing.
+use borrow.Author.Needs.{needs}
+use Prim.Native.Nat.{ℕ, _-_, _≤_}
+use mathlib.Core.Path.{_≡_, ap, _∙_}
+use mathlib.Core.Bool.{false}
+use native.Mathlib.Omega.{arith}
+use denote.Ref.{now}
+use lib.ListN.{getD}
+use Rattle.words.specs.Loops.{tab}
+use Rattle.chart.specs.View.{view}
+use Rattle.states.specs.Cells.{cells}
+use Rattle.states.proofs.Cells.{Growing, growing-none, growing-next}
+use Rattle.meaning.specs.Active.{activeAt, actives, active}
+use Rattle.active.proofs.Active.{same-active}
+use Rattle.active.proofs.active_set.Statement.{statement}
+use Rattle.active.proofs.active_set.Tie as tie
+
+abbrev Inv-loop : tie.InvT-loop
+Inv-loop t ranks current n acts₀ j₀ acts j =
+    (j ≤ n) × Growing (activeAt (view t) current) j (cells acts)
+
+abbrev μ-loop : tie.MeasureT-loop
+μ-loop t ranks current n acts₀ j₀ acts j = n - j
+
+loop-holds : tie.Need-loop-holds Inv-loop μ-loop
+loop-holds c =
+    let s = c .before .before .before .before .before .args in
+    (omega arith, growing-none (activeAt (view (now (s .t))) (now (s .current))) (c .none .ensures))
+
+is-active-at-requires : tie.Need-is-active-at-requires Inv-loop μ-loop
+is-active-at-requires c κs =
+    let pre = c .before .before .before .before .before .before .before .pre in
+    (pre .0, pre .1, omega (arith, c .before .before .before .number .ensures .0))
+
+loop-again : tie.Need-loop-again Inv-loop μ-loop
+loop-again c =
+    let start = c .before .before .before .before .before .before .before .before .before in
+    let l = c .before .before .before .loop in
+    let v = view (now (start .args .t)) in
+    let words = now (start .args .current) in
+    let g = activeAt v words in
+    let set = cells (l .acts) in
+    let grown = l .inv .1 in
+    let same = same-active v words (l .j) set (tab g (l .j)) (grown .made (v .parent (l .j))) in
+    let n = c .before .before .before .before .before .number .ensures .0 in
+    let few = start .pre .0 .counts .states .1 in
+    let told = c .before .is-active-at .ensures in
+    (omega arith, growing-next g (l .j) set (omega arith) told same (c .with .ensures) grown)
+
+returns : tie.Need-returns Inv-loop μ-loop
+unfolding active actives
+returns c =
+    let s = c .before .before .before .before .before .before .before .args in
+    let v = view (now (s .t)) in
+    let e : c .before .loop .j ≡ v .states = omega (arith, c .before .before .before .number .ensures .0) in
+    λ j. c .before .loop .inv .1 .made j ∙ ap (λ (n : ℕ). getD (tab (activeAt v (now (s .current))) n) j false) e
+
+pub active-set-spec : {M : Type 1} → statement M
+active-set-spec =
+    tie.close
+    (tie.spec
+    Inv-loop μ-loop (λ c κs. search needs) (λ c κs. search needs) loop-holds is-active-at-requires
+    (λ c κs. search needs) (λ c. omega arith) (λ c. omega arith) loop-again returns)

@@ -1,0 +1,2 @@
+-- `Ranks`: the places of the or-states' words.
+pub mod Ranks

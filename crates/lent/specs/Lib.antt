@@ -1,0 +1,2 @@
+-- `Laid`: words laid one after the other.
+pub mod Laid

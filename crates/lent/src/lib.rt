@@ -1,0 +1,174 @@
+// Lent words of an accepted chart: when they are a state of it, and how its words are copied, handed back and started. What
+// is copied is copied word by word, between slices of known lengths.
+ghost use mathlib.Core.Path.{_≡_};
+ghost use mathlib.Core.Bool.{false};
+ghost use mathlib.Core.List.{_++_};
+ghost use Prim.Native.Nat.{ℕ, _+_, _-_, _<_, _≤_};
+ghost use lib.ListN.{length, getD, take, drop};
+ghost use Rattle.words.specs.Loops.{allBelow};
+ghost use Rattle.chart.specs.View.{view};
+ghost use Rattle.chart_rules.specs.Rules.{ChartRules};
+ghost use Rattle.states.specs.Cells.{cells};
+ghost use Rattle.meaning.specs.Active.{isOr, active};
+ghost use Rattle.meaning.specs.Steps.{restWord, rest};
+ghost use Rattle.meaning.specs.State.{orStates, goodWord?, stateOf?, zeros, startWords};
+ghost use Rattle.meaning.specs.Calls.{roomFor};
+ghost use Rattle.active.specs.Ranks.{Ranks};
+ghost use Rattle.lent.specs.Laid.{laid};
+use states::StateSet;
+
+// As many words as `to` has, of `from` from `at` on.
+pub fn load(to: &mut [u16], from: &[u16], at: usize)
+    requires { ⌜ (at ≤ 48) × (at + length (now to) ≤ length (now from)) ⌝ }
+    ensures { λ r. ⌜ now (to .exit) ≡ take (length (now (to .entry))) (drop at (now (from .entry))) ⌝ }
+{
+    let n = to.len();
+    let mut i = 0;
+    while i < n {
+        words::put(to, i, words::word(from, at + i));
+        i += 1;
+    }
+}
+
+// Whether or-state o's word is good in `words`, whose active states are `acts`.
+fn good_word(t: &[u16], ranks: &[u16], current: &[u16], acts: StateSet, o: usize) -> bool
+    requires { ⌜ Ranks (view (now t)) (now ranks) × (o < view (now t) .states) × (o < 48) × ((j : ℕ) → getD (cells acts) j false ≡ active (view (now t)) (now current) j) ⌝ }
+    ensures { λ r. ⌜ r ≡ goodWord? (view (now (t .entry))) (now (current .entry)) o ⌝ }
+{
+    if chart::is_and(t, o) {
+        return true;
+    }
+    let child = active::child_of(t, ranks, current, o);
+    if states::has(acts, o) {
+        return chart::is_child(t, o, child);
+    }
+    if active::keeps_word(t, o) {
+        return chart::is_child(t, o, child);
+    }
+    child == chart::state_word(t, o, chart::INITIAL)
+}
+
+// Whether every or-state's word is good.
+fn good_words(t: &[u16], ranks: &[u16], current: &[u16]) -> bool
+    requires { ⌜ ChartRules (now t) × Ranks (view (now t)) (now ranks) ⌝ }
+    ensures { λ r. ⌜ r ≡ allBelow (goodWord? (view (now (t .entry))) (now (current .entry))) (view (now (t .entry)) .states) ⌝ }
+{
+    let acts = active::active_set(t, ranks, current);
+    let n = words::number(t, chart::STATES);
+    let mut o = 0;
+    while o < n {
+        if !good_word(t, ranks, current, acts, o) {
+            return false;
+        }
+        o += 1;
+    }
+    true
+}
+
+// Whether lent words are a state of the chart, which has `ors` or-states.
+pub fn is_state(t: &[u16], ranks: &[u16], ors: usize, state: &[u16]) -> bool
+    requires { ⌜ ChartRules (now t) × Ranks (view (now t)) (now ranks) × (ors ≡ orStates (view (now t))) × (ors ≤ 48) ⌝ }
+    ensures { λ r. ⌜ r ≡ stateOf? (view (now (t .entry))) (now (state .entry)) ⌝ }
+{
+    if state.len() != ors + words::number(t, chart::VARIABLES) {
+        return false;
+    }
+    good_words(t, ranks, &state[..ors])
+}
+
+// Or-state o's word as a macrostep hands it back, where `acts` are active.
+fn rest_word(t: &[u16], ranks: &[u16], current: &[u16], acts: StateSet, o: usize) -> u16
+    requires { ⌜ Ranks (view (now t)) (now ranks) × (o < view (now t) .states) × (o < 48) ⌝ }
+    ensures { λ r. ⌜ r ≡ restWord (view (now (t .entry))) (now (current .entry)) (cells acts) o ⌝ }
+{
+    if states::has(acts, o) {
+        return words::word(current, words::number(ranks, o));
+    }
+    if active::keeps_word(t, o) {
+        return words::word(current, words::number(ranks, o));
+    }
+    words::word(t, chart::state_at(t, o) + chart::INITIAL)
+}
+
+// Word v at place `at`, where state o is an or-state; the next place.
+fn lay(t: &[u16], o: usize, v: u16, at: usize, state: &mut [u16]) -> usize
+    requires { ⌜ (o < 48) × (at ≤ 48) ⌝ }
+    ensures { λ r. ⌜ (now (state .exit), r) ≡ laid (isOr (view (now (t .entry))) o) v at (now (state .entry)) ⌝ }
+{
+    if chart::is_and(t, o) {
+        return at;
+    }
+    words::put(state, at, v);
+    at + 1
+}
+
+// The words as a macrostep hands them back, into the front of `state`.
+pub fn lay_rest(t: &[u16], ranks: &[u16], current: &[u16], state: &mut [u16])
+    requires { ⌜ ChartRules (now t) × Ranks (view (now t)) (now ranks) × (orStates (view (now t)) ≤ length (now state)) ⌝ }
+    ensures { λ r. ⌜ now (state .exit) ≡ rest (view (now (t .entry))) (now (current .entry)) ++ drop (orStates (view (now (t .entry)))) (now (state .entry)) ⌝ }
+{
+    let acts = active::active_set(t, ranks, current);
+    let n = words::number(t, chart::STATES);
+    let mut at = 0;
+    let mut o = 0;
+    while o < n {
+        at = lay(t, o, rest_word(t, ranks, current, acts, o), at, state);
+        o += 1;
+    }
+}
+
+// The initial children, into the front of `state`.
+pub fn lay_initials(t: &[u16], state: &mut [u16])
+    requires { ⌜ ChartRules (now t) × (orStates (view (now t)) ≤ length (now state)) ⌝ }
+    ensures { λ r. ⌜ now (state .exit) ≡ startWords (view (now (t .entry))) ++ drop (orStates (view (now (t .entry)))) (now (state .entry)) ⌝ }
+{
+    let n = words::number(t, chart::STATES);
+    let mut at = 0;
+    let mut o = 0;
+    while o < n {
+        at = lay(
+            t,
+            o,
+            words::word(t, chart::state_at(t, o) + chart::INITIAL),
+            at,
+            state,
+        );
+        o += 1;
+    }
+}
+
+// The words of `from`, behind the first `at` of `to`.
+pub fn store(to: &mut [u16], at: usize, from: &[u16])
+    requires { ⌜ (at ≤ 48) × (at + length (now from) ≡ length (now to)) ⌝ }
+    ensures { λ r. ⌜ now (to .exit) ≡ take at (now (to .entry)) ++ now (from .entry) ⌝ }
+{
+    let mut i = 0;
+    while i < from.len() {
+        words::put(to, at + i, words::word(from, i));
+        i += 1;
+    }
+}
+
+// Zeros behind the first `at` words.
+pub fn clear(to: &mut [u16], at: usize)
+    requires { ⌜ (at ≤ 48) × (at ≤ length (now to)) ⌝ }
+    ensures { λ r. ⌜ now (to .exit) ≡ take at (now (to .entry)) ++ zeros (length (now (to .entry)) - at) ⌝ }
+{
+    let mut i = at;
+    while i < to.len() {
+        words::put(to, i, 0);
+        i += 1;
+    }
+}
+
+// The smaller of 256 and the pairs that `lent` words have.
+pub fn room_of(lent: usize) -> usize
+    ensures is { λ r. ⌜ r ≡ roomFor lent ⌝ }
+    ensures few { λ r. ⌜ r ≤ 256 ⌝ }
+{
+    let pairs = lent / 2;
+    if 256 < pairs {
+        return 256;
+    }
+    pairs
+}

@@ -1,0 +1,52 @@
+-- What a run leaves of a state is a state. Assumes nothing.
+use Prim.Native.Nat.{ℕ}
+use mathlib.Core.Path.{_≡_}
+use mathlib.Core.Bool.{true}
+use mathlib.Core.List.{List}
+use native.Mathlib.Omega.{arith}
+use lib.ListN.{length, length-drop}
+use lib.Dec.{eqb, ltb}
+use Rattle.words.proofs.Tests.{by-bool}
+use Rattle.effects.specs.Run.{Result, ok, refuse, St, macrostep}
+use Rattle.chart.specs.View.{Chart, view}
+use Rattle.chart_check.specs.Answer.{chartAnswer}
+use Rattle.meaning.specs.Steps.{chartMachine, rest}
+use Rattle.meaning.specs.State.{orStates, stateLength, wordsOf, varsOf, stateOf?}
+use Rattle.meaning.specs.Calls.{roomFor, ranOn, ranAccepted, finished, runChart}
+use Rattle.meaning.specs.Theorems.{Children, RunLeavesState}
+use Rattle.meaning.proofs.Tree.{Tree, tree}
+use Rattle.meaning.proofs.State.{state-children, state-length, state-made}
+use Rattle.meaning.proofs.Sets.{microstep-children}
+use Rattle.meaning.proofs.Rest.{rest-length, rest-good}
+use Rattle.meaning.proofs.Keeps.{Holds, done, refused, Kept, macrostep-keeps}
+
+-- what a macrostep from a state keeps
+abbrev pub RunKept : Chart → St → Type 0
+RunKept c = Kept (Children c) (c .variables)
+
+module _ {c : Chart} (w : Tree c) (state : List ℕ) (s : stateOf? c state ≡ true) where
+  pub vars-length : length (varsOf c state) ≡ c .variables
+  unfolding stateLength
+  vars-length = omega (arith, length-drop (orStates c) state, state-length w state s)
+
+  pub run-kept : (e room : ℕ)
+      → Holds (RunKept c) (macrostep (c .events) room (chartMachine c) e (wordsOf c state) (varsOf c state))
+  run-kept e room =
+      macrostep-keeps (Children c) (c .variables) (c .events) room (chartMachine c) (microstep-children c w) e
+      (wordsOf c state) (varsOf c state) (state-children w state s) vars-length
+
+  finish : (r : Result St) (outputs : List ℕ) → Holds (RunKept c) r → stateOf? c (finished c r state outputs .state) ≡ true
+  finish (ok v) outputs (done k) =
+      let words = v .words in
+      state-made w (rest c words) (v .env .vars) (rest-length c words) (k .vars) (rest-good w words (k .words))
+  finish (refuse r) outputs refused = s
+
+pub run-leaves-state : RunLeavesState
+unfolding runChart ranAccepted ranOn
+run-leaves-state chart r state s event outputs =
+    let c = view chart in
+    by-bool (eqb (chartAnswer chart .0) 0)
+    (λ a. by-bool (ltb event (c .events))
+    (λ b. rw (a, s, b) (finish (tree r) state s _ outputs (run-kept (tree r) state s event (roomFor (length outputs)))))
+    (λ b. rw (a, s, b) s))
+    (λ a. rw a s)

@@ -1,0 +1,11 @@
+-- What a chart means. `Active`: state words and active states; `Scope`; `Taken`: literals and the transitions taken;
+-- `Entered`; `Steps`: the chart as a machine; `State`: lent states and the start; `Calls`: what a start and a run give.
+pub mod Active
+pub mod Scope
+pub mod Taken
+pub mod Entered
+pub mod Steps
+pub mod State
+pub mod Calls
+pub mod Theorems
+pub mod Seven

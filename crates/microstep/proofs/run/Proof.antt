@@ -1,0 +1,22 @@
+-- `microstep::run` meets its contract: what it returns is what its callees say. Assumes nothing.
+use denote.Ref.{now}
+use Rattle.chart.specs.View.{view}
+use Rattle.states.specs.Cells.{cells}
+use Rattle.microstep.proofs.Same.{machine-runs}
+use borrow.Author.Needs.{needs}
+use Rattle.microstep.proofs.run.Statement.{statement}
+use Rattle.microstep.proofs.run.Tie as tie
+
+returns : tie.Need-returns
+returns c =
+    let s = c .before .before .before .before .before .before .before .before .before .before .before .before .before .before .before .before .before .before .before .before .before .before .before .before .args in
+    machine-runs (view (now (s .t))) _ (now (s .current)) (now (s .vars))
+    (cells (c .before .before .before .before .before .before .before .before .before .before .before .before .before .before .before .before .active-set .result)) (cells (c .before .before .before .before .before .before .before .before .before .before .before .before .before .taken-set .result)) (c .before .before .before .before .before .before .before .before .before .before .before .before .before .before .before .before .active-set .ensures) (c .before .before .before .before .before .before .before .before .before .before .before .before .before .taken-set .ensures)
+    (s .room) (s .e .0) _ _ (c .before .before .before .before .before .before .before .before .before .before .before .before .before .before .before .wide .ensures .0) (c .before .before .before .before .before .before .before .before .fire-all .ensures)
+
+pub run-spec : {M : Type 1} → statement M
+run-spec =
+    tie.close
+    (tie.spec
+    (λ c κs. search needs) (λ c κs. search needs) (λ c κs. search needs) (λ c κs. search needs)
+    (λ c. search needs) (λ c. search needs) (λ c. search needs) (λ c. search needs) returns)

@@ -1,0 +1,182 @@
+// A microstep of an accepted chart: the transitions that are taken, one after another. The specs of `meaning` say which steps
+// a microstep has; here they are gone through.
+ghost use mathlib.Core.Path.{_≡_};
+ghost use mathlib.Core.Bool.{false, cond};
+ghost use mathlib.Core.List.{List, []};
+ghost use Prim.Native.Nat.{ℕ, _<_, _≤_};
+ghost use lib.ListN.{getD};
+ghost use Rattle.words.specs.Loops.{joinUp};
+ghost use Rattle.effects.specs.Work.{going, doStep, doSteps};
+ghost use Rattle.chart.specs.View.{view};
+ghost use Rattle.chart_rules.specs.Rules.{ChartRules};
+ghost use Rattle.states.specs.Cells.{cells};
+ghost use Rattle.meaning.specs.Scope.{scope};
+ghost use Rattle.meaning.specs.Entered.{entereds};
+ghost use Rattle.meaning.specs.Steps.{takeStep, fires, chartMachine};
+ghost use Rattle.active.specs.Ranks.{Ranks};
+ghost use Rattle.moves.specs.Below.{leavesBelow, entersAll};
+use effects::Progress;
+use states::StateSet;
+use table::Trigger;
+
+// The states below `top` that were active are left, and transition k's own items run.
+fn leave_and_take(
+    t: &[u16],
+    top: usize,
+    acts: StateSet,
+    k: usize,
+    room: usize,
+    vars: &mut [u16],
+    outs: &mut [u16],
+    queue: &mut [u16],
+    n: Progress,
+) -> Progress
+    requires { ⌜ (view (now t) .states ≤ 48) × (k < 48) ⌝ }
+    ensures { λ r. ⌜ ((next : List ℕ) → going r next (now (vars .exit)) (now (outs .exit)) (now (queue .exit)) ≡ doStep room (takeStep (view (now (t .entry))) k) (doSteps room (leavesBelow (view (now (t .entry))) (cells acts) top) (going n next (now (vars .entry)) (now (outs .entry)) (now (queue .entry))))) ⌝ }
+{
+    let m = moves::leave_all(t, top, acts, room, vars, outs, queue, n);
+    moves::take_own(t, k, room, vars, outs, queue, m)
+}
+
+// The states that transition k enters, whose scope is `top`.
+fn enter(
+    t: &[u16],
+    ranks: &[u16],
+    current: &[u16],
+    k: usize,
+    top: usize,
+    room: usize,
+    next: &mut [u16],
+    vars: &mut [u16],
+    outs: &mut [u16],
+    queue: &mut [u16],
+    n: Progress,
+) -> Progress
+    requires { ⌜ ChartRules (now t) × Ranks (view (now t)) (now ranks) × (k < 48) × (top ≡ scope (view (now t)) k) ⌝ }
+    ensures { λ r. ⌜ going r (now (next .exit)) (now (vars .exit)) (now (outs .exit)) (now (queue .exit)) ≡ doSteps room (entersAll (view (now (t .entry))) (entereds (view (now (t .entry))) (now (current .entry)) k)) (going n (now (next .entry)) (now (vars .entry)) (now (outs .entry)) (now (queue .entry))) ⌝ }
+{
+    let entered = entered::entered_set(t, ranks, current, k, top);
+    moves::enter_all(t, ranks, entered, room, next, vars, outs, queue, n)
+}
+
+// Transition k is carried out: states are left, its own items run, states are entered. Without targets only its items run.
+fn fire(
+    t: &[u16],
+    ranks: &[u16],
+    current: &[u16],
+    acts: StateSet,
+    k: usize,
+    room: usize,
+    next: &mut [u16],
+    vars: &mut [u16],
+    outs: &mut [u16],
+    queue: &mut [u16],
+    n: Progress,
+) -> Progress
+    requires { ⌜ ChartRules (now t) × Ranks (view (now t)) (now ranks) × (k < view (now t) .transitions) ⌝ }
+    ensures { λ r. ⌜ going r (now (next .exit)) (now (vars .exit)) (now (outs .exit)) (now (queue .exit)) ≡ doSteps room (fires (view (now (t .entry))) (now (current .entry)) (cells acts) k) (going n (now (next .entry)) (now (vars .entry)) (now (outs .entry)) (now (queue .entry))) ⌝ }
+{
+    if !taken::is_scoped(t, k) {
+        return moves::take_own(t, k, room, vars, outs, queue, n);
+    }
+    let top = taken::scope_of(t, k);
+    let m = leave_and_take(t, top, acts, k, room, vars, outs, queue, n);
+    enter(t, ranks, current, k, top, room, next, vars, outs, queue, m)
+}
+
+// Transition k is carried out, where it is taken.
+fn fire_taken(
+    t: &[u16],
+    ranks: &[u16],
+    current: &[u16],
+    acts: StateSet,
+    taken: StateSet,
+    k: usize,
+    room: usize,
+    next: &mut [u16],
+    vars: &mut [u16],
+    outs: &mut [u16],
+    queue: &mut [u16],
+    n: Progress,
+) -> Progress
+    requires { ⌜ ChartRules (now t) × Ranks (view (now t)) (now ranks) × (k < view (now t) .transitions) ⌝ }
+    ensures { λ r. ⌜ going r (now (next .exit)) (now (vars .exit)) (now (outs .exit)) (now (queue .exit)) ≡ doSteps room (cond (getD (cells taken) k false) (fires (view (now (t .entry))) (now (current .entry)) (cells acts) k) []) (going n (now (next .entry)) (now (vars .entry)) (now (outs .entry)) (now (queue .entry))) ⌝ }
+{
+    if !states::has(taken, k) {
+        return n;
+    }
+    fire(t, ranks, current, acts, k, room, next, vars, outs, queue, n)
+}
+
+// The transitions of `taken`, in rising number.
+fn fire_all(
+    t: &[u16],
+    ranks: &[u16],
+    current: &[u16],
+    acts: StateSet,
+    taken: StateSet,
+    room: usize,
+    next: &mut [u16],
+    vars: &mut [u16],
+    outs: &mut [u16],
+    queue: &mut [u16],
+    n: Progress,
+) -> Progress
+    requires { ⌜ ChartRules (now t) × Ranks (view (now t)) (now ranks) ⌝ }
+    ensures { λ r. ⌜ going r (now (next .exit)) (now (vars .exit)) (now (outs .exit)) (now (queue .exit)) ≡ doSteps room (joinUp (λ k. cond (getD (cells taken) k false) (fires (view (now (t .entry))) (now (current .entry)) (cells acts) k) []) (view (now (t .entry)) .transitions)) (going n (now (next .entry)) (now (vars .entry)) (now (outs .entry)) (now (queue .entry))) ⌝ }
+{
+    let transitions = words::number(t, chart::TRANSITIONS);
+    let mut m = n;
+    let mut k = 0;
+    while k < transitions {
+        m = fire_taken(
+            t,
+            ranks,
+            current,
+            acts,
+            taken,
+            k,
+            room,
+            next,
+            vars,
+            outs,
+            queue,
+            m,
+        );
+        k += 1;
+    }
+    m
+}
+
+// One microstep for trigger e. `current` are the state words at its start; `next` is to be current at its end.
+pub fn run(
+    t: &[u16],
+    ranks: &[u16],
+    current: &[u16],
+    e: Trigger,
+    room: usize,
+    next: &mut [u16],
+    vars: &mut [u16],
+    outs: &mut [u16],
+    queue: &mut [u16],
+    n: Progress,
+) -> Progress
+    requires { ⌜ ChartRules (now t) × Ranks (view (now t)) (now ranks) ⌝ }
+    ensures { λ r. ⌜ going r (now (next .exit)) (now (vars .exit)) (now (outs .exit)) (now (queue .exit)) ≡ doSteps room (chartMachine (view (now (t .entry))) (e .0) (now (current .entry)) (now (vars .entry))) (going n (now (next .entry)) (now (vars .entry)) (now (outs .entry)) (now (queue .entry))) ⌝ }
+{
+    let acts = active::active_set(t, ranks, current);
+    let taken = taken::taken_set(t, effects::wide(e.0), acts, vars);
+    fire_all(
+        t,
+        ranks,
+        current,
+        acts,
+        taken,
+        room,
+        next,
+        vars,
+        outs,
+        queue,
+        n,
+    )
+}

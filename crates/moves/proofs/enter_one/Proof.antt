@@ -1,0 +1,42 @@
+-- `moves::enter_one` meets its contract: what it returns is what its callees say. Assumes nothing.
+use borrow.Author.Tests.{not-true, not-false}
+use Prim.Native.Nat.{ℕ, _+_}
+use mathlib.Core.Path.{_≡_, refl, sym, ap, _∙_}
+use lib.ListN.{getD, set}
+use denote.Ref.{now}
+use Rattle.table.specs.Span.{spanAt}
+use Rattle.effects.specs.Work.{doSteps}
+use Rattle.chart.specs.View.{view}
+use Rattle.meaning.specs.Steps.{itemsOf, enterStep}
+use Rattle.moves.proofs.Steps.{one-step}
+use borrow.Author.Needs.{needs}
+use Rattle.moves.proofs.enter_one.Statement.{statement}
+use Rattle.moves.proofs.enter_one.Tie as tie
+
+returns : tie.Need-returns
+unfolding doSteps enterStep
+returns c =
+    rw (sym (c .before .has .ensures) ∙ not-true (c .before .has .result) (c .if1 .taken)) refl
+
+returns-2 : tie.Need-returns-2
+unfolding doSteps enterStep
+returns-2 c =
+    let s = c .before .before .before .before .before .before .before .before .before .before .before .before .before .before .before .before .before .before .before .before .before .before .before .before .before .before .args in
+    let v = view (now (s .t)) in
+    let at : spanAt (now (s .t)) (c .before .before .before .before .before .before .before .before .before .before .before .state-at .result + 5) ≡ v .entries (s .j) = cc in
+    let has = c .before .before .before .before .before .before .before .before .before .before .before .before .before .before .before .before .before .before .before .has in
+    let is = sym (has .ensures) ∙ not-false (has .result) (c .before .before .before .before .before .before .before .before .before .before .before .before .before .before .before .before .before .before .if1 .left) in
+    let up = c .before .before .before .before .before .before .before .before .before .before .before .before .before .before .before .before .before .state-word .ensures .0 in
+    let rank = c .before .before .before .before .before .before .before .before .before .before .before .before .before .before .before .number .ensures .0 ∙ ap (λ (k : ℕ). getD (now (s .ranks)) k 0) up ∙ c .before .before .before .before .before .before .before .before .before .before .before .before .before .before .before .before .before .before .before .before .before .before .before .before .before .before .pre .1 _ (c .before .before .before .before .before .before .before .before .before .before .before .before .before .before .before .before .before .before .before .before .before .before .before .before .before .before .pre .2 is) in
+    rw is
+    (one-step (s .room) (enterStep v (s .j)) (s .n) _ _ _ (now (s .next)) _ _ _ _ _ _ _
+    (c .before .before .before .before .before .before .before .count-enter .ensures) (ap (itemsOf v) at) (c .before .before .before .before .before .before .before .before .before .before .before .before .before .before .put .ensures ∙ ap (λ (i : ℕ). set (now (s .next)) i (s .j)) rank) (c .before .before .before .before .before .before .run-span .ensures))
+
+pub enter-one-spec : {M : Type 1} → statement M
+enter-one-spec =
+    tie.close
+    (tie.spec
+    (λ c κs. search needs) returns (λ c κs. search needs) (λ c κs. search needs) (λ c. search needs)
+    (λ c κs. search needs) (λ c κs. search needs) (λ c. search needs) (λ c κs. search needs)
+    (λ c κs. search needs) (λ c. search needs) (λ c. search needs) (λ c. search needs) (λ c. search needs)
+    returns-2)

@@ -1,0 +1,36 @@
+-- `moves::leave_one` meets its contract: what it returns is what its callees say. Assumes nothing.
+use borrow.Author.Tests.{not-true, not-false}
+use Prim.Native.Nat.{_+_}
+use mathlib.Core.Path.{_≡_, refl, sym, ap, _∙_}
+use denote.Ref.{now}
+use Rattle.table.specs.Span.{spanAt}
+use Rattle.effects.specs.Work.{doSteps}
+use Rattle.chart.specs.View.{view}
+use Rattle.meaning.specs.Steps.{itemsOf, leaveStep}
+use Rattle.moves.proofs.Steps.{one-step}
+use borrow.Author.Needs.{needs}
+use Rattle.moves.proofs.leave_one.Statement.{statement}
+use Rattle.moves.proofs.leave_one.Tie as tie
+
+returns : tie.Need-returns
+unfolding doSteps leaveStep
+returns c =
+    λ next. rw (sym (c .before .is-left .ensures) ∙ not-true (c .before .is-left .result) (c .if1 .taken)) refl
+
+returns-2 : tie.Need-returns-2
+unfolding doSteps leaveStep
+returns-2 c =
+    let s = c .before .before .before .before .before .before .before .before .before .before .before .before .before .before .before .before .before .before .args in
+    let v = view (now (s .t)) in
+    let at : spanAt (now (s .t)) (c .before .before .before .before .before .before .before .before .before .before .before .state-at .result + 3) ≡ v .exits (s .j) = cc in
+    let left = c .before .before .before .before .before .before .before .before .before .before .before .before .before .is-left in
+    λ next. rw (sym (left .ensures) ∙ not-false (left .result) (c .before .before .before .before .before .before .before .before .before .before .before .before .if1 .left))
+    (one-step (s .room) (leaveStep v (s .j)) (s .n) _ _ _ next next _ _ _ _ _ _
+    (c .before .before .before .before .before .before .before .count-leave .ensures) (ap (itemsOf v) at) refl (c .before .before .before .before .before .before .run-span .ensures))
+
+pub leave-one-spec : {M : Type 1} → statement M
+leave-one-spec =
+    tie.close
+    (tie.spec
+    (λ c κs. search needs) returns (λ c κs. search needs) (λ c. search needs) (λ c κs. search needs)
+    (λ c κs. search needs) (λ c. search needs) (λ c. search needs) (λ c. search needs) returns-2)

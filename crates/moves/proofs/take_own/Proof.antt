@@ -1,0 +1,28 @@
+-- `moves::take_own` meets its contract: what it returns is what its callees say. Assumes nothing.
+use Prim.Native.Nat.{_+_}
+use mathlib.Core.Path.{_≡_, refl, ap}
+use denote.Ref.{now}
+use Rattle.table.specs.Span.{spanAt}
+use Rattle.chart.specs.View.{view}
+use Rattle.meaning.specs.Steps.{itemsOf, takeStep}
+use Rattle.moves.proofs.Steps.{one-step}
+use borrow.Author.Needs.{needs}
+use Rattle.moves.proofs.take_own.Statement.{statement}
+use Rattle.moves.proofs.take_own.Tie as tie
+
+returns : tie.Need-returns
+unfolding takeStep
+returns c =
+    let s = c .before .before .before .before .before .before .before .before .before .before .before .before .before .before .before .before .args in
+    let v = view (now (s .t)) in
+    let at : spanAt (now (s .t)) (c .before .before .before .before .before .before .before .before .before .before .before .transition-at .result + 4) ≡ v .does (s .k) = cc in
+    λ next.
+    one-step (s .room) (takeStep v (s .k)) (s .n) _ _ _ next next _ _ _ _ _ _
+    (c .before .before .before .before .before .before .before .count-take .ensures) (ap (itemsOf v) at) refl (c .before .before .before .before .before .before .run-span .ensures)
+
+pub take-own-spec : {M : Type 1} → statement M
+take-own-spec =
+    tie.close
+    (tie.spec
+    (λ c κs. search needs) (λ c. search needs) (λ c κs. search needs) (λ c κs. search needs) (λ c. search needs)
+    (λ c. search needs) (λ c. search needs) returns)

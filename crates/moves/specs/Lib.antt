@@ -1,0 +1,2 @@
+-- `Below`: the steps of a transition whose scope is known.
+pub mod Below

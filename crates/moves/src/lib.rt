@@ -1,0 +1,178 @@
+// The steps of one transition of an accepted chart: states are left, its own items run, states are entered.
+ghost use mathlib.Core.Path.{_≡_};
+ghost use mathlib.Core.Bool.{true, false};
+ghost use mathlib.Core.List.{List};
+ghost use Prim.Native.Nat.{ℕ, _<_, _≤_};
+ghost use lib.ListN.{getD};
+ghost use Rattle.words.specs.Loops.{when};
+ghost use Rattle.table.specs.Span.{spanAt};
+ghost use Rattle.effects.specs.Work.{work, going, doItems, doStep, doSteps};
+ghost use Rattle.chart.specs.View.{view};
+ghost use Rattle.states.specs.Cells.{cells};
+ghost use Rattle.meaning.specs.Steps.{itemsOf, leaveStep, takeStep, enterStep};
+ghost use Rattle.active.specs.Ranks.{Ranks};
+ghost use Rattle.moves.specs.Below.{leftBelow, leavesBelow, entersAll};
+use effects::Progress;
+use states::StateSet;
+
+// The items of the span whose two words begin at `at`.
+fn run_span(
+    t: &[u16],
+    at: usize,
+    room: usize,
+    vars: &mut [u16],
+    outs: &mut [u16],
+    queue: &mut [u16],
+    n: Progress,
+) -> Progress
+    requires { ⌜ at < 1000000 ⌝ }
+    ensures { λ r. ⌜ work r (now (vars .exit)) (now (outs .exit)) (now (queue .exit)) ≡ doItems room (itemsOf (view (now (t .entry))) (spanAt (now (t .entry)) at)) (work n (now (vars .entry)) (now (outs .entry)) (now (queue .entry))) ⌝ }
+{
+    let first = words::number(t, chart::ITEMS_AT) + 3 * words::number(t, at);
+    let count = words::number(t, at + 1);
+    effects::run_items(t, first, count, room, vars, outs, queue, n)
+}
+
+// Whether state j is to be left: an and-state that was active, below `top`, the scope.
+fn is_left(t: &[u16], top: usize, acts: StateSet, j: usize) -> bool
+    requires { ⌜ j < 48 ⌝ }
+    ensures { λ r. ⌜ r ≡ leftBelow (view (now (t .entry))) (cells acts) top j ⌝ }
+{
+    if !words::both(chart::is_and(t, j), states::has(acts, j)) {
+        return false;
+    }
+    active::is_beneath(t, top, j)
+}
+
+// State j is left, where it is to be: its exit items run.
+fn leave_one(
+    t: &[u16],
+    top: usize,
+    acts: StateSet,
+    j: usize,
+    room: usize,
+    vars: &mut [u16],
+    outs: &mut [u16],
+    queue: &mut [u16],
+    n: Progress,
+) -> Progress
+    requires { ⌜ j < 48 ⌝ }
+    ensures { λ r. ⌜ ((next : List ℕ) → going r next (now (vars .exit)) (now (outs .exit)) (now (queue .exit)) ≡ doSteps room (when (leftBelow (view (now (t .entry))) (cells acts) top j) (leaveStep (view (now (t .entry))) j)) (going n next (now (vars .entry)) (now (outs .entry)) (now (queue .entry)))) ⌝ }
+{
+    if !is_left(t, top, acts, j) {
+        return n;
+    }
+    run_span(
+        t,
+        chart::state_at(t, j) + chart::EXITS,
+        room,
+        vars,
+        outs,
+        queue,
+        effects::count_leave(n),
+    )
+}
+
+// The states below `top` that were active are left, in falling number.
+pub fn leave_all(
+    t: &[u16],
+    top: usize,
+    acts: StateSet,
+    room: usize,
+    vars: &mut [u16],
+    outs: &mut [u16],
+    queue: &mut [u16],
+    n: Progress,
+) -> Progress
+    requires { ⌜ view (now t) .states ≤ 48 ⌝ }
+    ensures { λ r. ⌜ ((next : List ℕ) → going r next (now (vars .exit)) (now (outs .exit)) (now (queue .exit)) ≡ doSteps room (leavesBelow (view (now (t .entry))) (cells acts) top) (going n next (now (vars .entry)) (now (outs .entry)) (now (queue .entry)))) ⌝ }
+{
+    let mut m = n;
+    let mut j = words::number(t, chart::STATES);
+    while 0 < j {
+        j -= 1;
+        m = leave_one(t, top, acts, j, room, vars, outs, queue, m);
+    }
+    m
+}
+
+// State j is entered, where `entered` has it: it is to be current, and its entry items run.
+fn enter_one(
+    t: &[u16],
+    ranks: &[u16],
+    entered: StateSet,
+    j: usize,
+    room: usize,
+    next: &mut [u16],
+    vars: &mut [u16],
+    outs: &mut [u16],
+    queue: &mut [u16],
+    n: Progress,
+) -> Progress
+    requires { ⌜ (j < 48) × Ranks (view (now t)) (now ranks) × (getD (cells entered) j false ≡ true → view (now t) .parent j < view (now t) .states) ⌝ }
+    ensures { λ r. ⌜ going r (now (next .exit)) (now (vars .exit)) (now (outs .exit)) (now (queue .exit)) ≡ doSteps room (when (getD (cells entered) j false) (enterStep (view (now (t .entry))) j)) (going n (now (next .entry)) (now (vars .entry)) (now (outs .entry)) (now (queue .entry))) ⌝ }
+{
+    if !states::has(entered, j) {
+        return n;
+    }
+    let o = chart::state_word(t, j, chart::PARENT);
+    words::put(next, words::number(ranks, o), j as u16);
+    run_span(
+        t,
+        chart::state_at(t, j) + chart::ENTRIES,
+        room,
+        vars,
+        outs,
+        queue,
+        effects::count_enter(n),
+    )
+}
+
+// The states of `entered` are entered, in rising number.
+pub fn enter_all(
+    t: &[u16],
+    ranks: &[u16],
+    entered: StateSet,
+    room: usize,
+    next: &mut [u16],
+    vars: &mut [u16],
+    outs: &mut [u16],
+    queue: &mut [u16],
+    n: Progress,
+) -> Progress
+    requires { ⌜ (view (now t) .states ≤ 48) × Ranks (view (now t)) (now ranks) × ((j : ℕ) → getD (cells entered) j false ≡ true → view (now t) .parent j < view (now t) .states) ⌝ }
+    ensures { λ r. ⌜ going r (now (next .exit)) (now (vars .exit)) (now (outs .exit)) (now (queue .exit)) ≡ doSteps room (entersAll (view (now (t .entry))) (cells entered)) (going n (now (next .entry)) (now (vars .entry)) (now (outs .entry)) (now (queue .entry))) ⌝ }
+{
+    let states = words::number(t, chart::STATES);
+    let mut m = n;
+    let mut j = 0;
+    while j < states {
+        m = enter_one(t, ranks, entered, j, room, next, vars, outs, queue, m);
+        j += 1;
+    }
+    m
+}
+
+// Transition k's own items.
+pub fn take_own(
+    t: &[u16],
+    k: usize,
+    room: usize,
+    vars: &mut [u16],
+    outs: &mut [u16],
+    queue: &mut [u16],
+    n: Progress,
+) -> Progress
+    requires { ⌜ k < 48 ⌝ }
+    ensures { λ r. ⌜ ((next : List ℕ) → going r next (now (vars .exit)) (now (outs .exit)) (now (queue .exit)) ≡ doStep room (takeStep (view (now (t .entry))) k) (going n next (now (vars .entry)) (now (outs .entry)) (now (queue .entry)))) ⌝ }
+{
+    run_span(
+        t,
+        chart::transition_at(t, k) + chart::DOES,
+        room,
+        vars,
+        outs,
+        queue,
+        effects::count_take(n),
+    )
+}

@@ -1,0 +1,60 @@
+-- `taken::all_beneath` meets its contract: what is asked of all targets is asked of those left. Assumes nothing.
+use borrow.Author.Needs.{needs}
+use borrow.Author.Tests.{not-true, not-false}
+use Prim.Native.Nat.{_+_, _≤_}
+use mathlib.Core.Path.{_≡_, sym, _∙_}
+use native.Mathlib.Omega.{arith}
+use denote.Ref.{now}
+use Rattle.words.specs.Loops.{many, all}
+use Rattle.words.proofs.Many.{all-good, all-bad, all-end}
+use Rattle.chart.specs.View.{view}
+use Rattle.meaning.specs.Scope.{beneath, targetsOf}
+use Rattle.taken.proofs.all_beneath.Statement.{statement}
+use Rattle.taken.proofs.all_beneath.Tie as tie
+
+abbrev Inv-loop : tie.InvT-loop
+Inv-loop t k o at i₀ left₀ i left =
+    (i + left ≤ 200000)
+    × (all (beneath (view t) o) (targetsOf (view t) k) ≡ all (beneath (view t) o) (many (view t .target) i left))
+
+abbrev μ-loop : tie.MeasureT-loop
+μ-loop t k o at i₀ left₀ i left = left
+
+loop-holds : tie.Need-loop-holds Inv-loop μ-loop
+unfolding targetsOf
+loop-holds c = (omega arith, cc)
+
+returns : tie.Need-returns Inv-loop μ-loop
+returns c =
+    let s = c .before .before .before .before .before .before .before .before .before .args in
+    let l = c .before .before .before .before .loop in
+    let v = view (now (s .t)) in
+    let told : c .before .is-beneath .result ≡ beneath v (s .o) (v .target (l .i)) = cc in
+    sym (l .inv .1 ∙ all-bad (beneath v (s .o)) (v .target) (l .i) (l .left) (c .before .before .before .loop-test .taken)
+    (sym told ∙ not-true (c .before .is-beneath .result) (c .if1 .taken)))
+
+loop-again : tie.Need-loop-again Inv-loop μ-loop
+loop-again c =
+    let s = c .before .before .before .before .before .before .before .before .before .args in
+    let l = c .before .before .before .before .loop in
+    let v = view (now (s .t)) in
+    let told : c .before .is-beneath .result ≡ beneath v (s .o) (v .target (l .i)) = cc in (
+      omega arith,
+      l .inv .1 ∙ all-good (beneath v (s .o)) (v .target) (l .i) (l .left) (c .before .before .before .loop-test .taken)
+          (sym told ∙ not-false (c .before .is-beneath .result) (c .if1 .left)),
+    )
+
+returns-2 : tie.Need-returns-2 Inv-loop μ-loop
+returns-2 c =
+    let s = c .before .before .before .before .before .before .args in
+    let l = c .before .loop in
+    let v = view (now (s .t)) in
+    sym (l .inv .1 ∙ all-end (beneath v (s .o)) (v .target) (l .i) (l .left) (c .loop-test .left))
+
+pub all-beneath-spec : {M : Type 1} → statement M
+all-beneath-spec =
+    tie.close
+    (tie.spec
+    Inv-loop μ-loop (λ c κs. search needs) (λ c. search needs) (λ c κs. search needs) (λ c. search needs)
+    (λ c. search needs) (λ c κs. search needs) loop-holds (λ c κs. search needs) (λ c κs. search needs) returns
+    (λ c. search needs) (λ c. search needs) (λ c. search needs) loop-again returns-2)

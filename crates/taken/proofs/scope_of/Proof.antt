@@ -1,0 +1,75 @@
+-- `taken::scope_of` meets its contract: each state that is above all is above the state come to, so the first one met is
+-- the greatest. Assumes nothing.
+use borrow.Author.Needs.{needs}
+use mathlib.Core.Path.{_≡_, _∙_}
+use mathlib.Core.Bool.{true, false}
+use native.Mathlib.Omega.{arith}
+use denote.Ref.{now}
+use Rattle.chart.specs.View.{view}
+use Rattle.chart_rules.proofs.Told.{parent-smaller}
+use Rattle.meaning.specs.Scope.{aboveAll}
+use Rattle.taken.proofs.Scope.{Under, at-source, at-root, found, not-yet}
+use Rattle.taken.proofs.scope_of.Statement.{statement}
+use Rattle.taken.proofs.scope_of.Tie as tie
+
+abbrev Inv-loop : tie.InvT-loop
+Inv-loop t k o₀ o = Under (view t) k o
+
+abbrev μ-loop : tie.MeasureT-loop
+μ-loop t k o₀ o = o
+
+loop-holds : tie.Need-loop-holds Inv-loop μ-loop
+loop-holds c =
+    let s = c .before .before .args in
+    let pre = c .before .before .pre in
+    rw (c .transition-word .ensures .0) (at-source (view (now (s .t))) (s .k) (pre .0 .sources (s .k) (pre .1) .source-in))
+
+is-above-all-requires : tie.Need-is-above-all-requires Inv-loop μ-loop
+is-above-all-requires c κs =
+    let s = c .before .before .before .before .before .args in
+    let rules = c .before .before .before .before .before .pre .0 in
+    let l = c .before .before .loop in
+    let up = parent-smaller (view (now (s .t))) (l .o) (rules .places (l .o) (l .inv .state)) (λ z. omega arith) in
+    (omega arith, omega arith)
+
+returns : tie.Need-returns Inv-loop μ-loop
+returns c =
+    let s = c .before .before .before .before .before .before .before .args in
+    let l = c .before .before .before .before .loop in
+    let v = view (now (s .t)) in
+    let rules = c .before .before .before .before .before .before .before .pre .0 in
+    let up = parent-smaller v (l .o) (rules .places (l .o) (l .inv .state)) (λ z. omega arith) in
+    let parent = c .before .before .state-word .ensures .0 in
+    let told : aboveAll v (s .k) (v .parent (l .o)) ≡ true = cc in
+    (parent ∙ found v (s .k) (l .o) (l .inv) up told, omega arith)
+
+loop-less : tie.Need-loop-less Inv-loop μ-loop
+loop-less c =
+    let s = c .before .before .before .before .before .before .before .args in
+    let l = c .before .before .before .before .loop in
+    let rules = c .before .before .before .before .before .before .before .pre .0 in
+    let up = parent-smaller (view (now (s .t))) (l .o) (rules .places (l .o) (l .inv .state)) (λ z. omega arith) in
+    omega arith
+
+loop-again : tie.Need-loop-again Inv-loop μ-loop
+loop-again c =
+    let s = c .before .before .before .before .before .before .before .args in
+    let l = c .before .before .before .before .loop in
+    let v = view (now (s .t)) in
+    let rules = c .before .before .before .before .before .before .before .pre .0 in
+    let up = parent-smaller v (l .o) (rules .places (l .o) (l .inv .state)) (λ z. omega arith) in
+    let told : aboveAll v (s .k) (v .parent (l .o)) ≡ false = cc in
+    rw (c .before .before .state-word .ensures .0) (not-yet v (s .k) (l .o) (l .inv) up told)
+
+returns-2 : tie.Need-returns-2 Inv-loop μ-loop
+returns-2 c =
+    let s = c .before .before .before .before .args in
+    let l = c .before .loop in
+    (at-root (view (now (s .t))) (s .k) (l .o) (c .loop-test .left) (l .inv), l .inv .state)
+
+pub scope-of-spec : {M : Type 1} → statement M
+scope-of-spec =
+    tie.close
+    (tie.spec
+    Inv-loop μ-loop (λ c κs. search needs) loop-holds (λ c κs. search needs) is-above-all-requires returns
+    loop-less loop-again returns-2)

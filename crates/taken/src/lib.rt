@@ -1,0 +1,169 @@
+// The transitions that a microstep takes: scope, literals, enabled, blocked. Every function is for an accepted chart.
+ghost use mathlib.Core.Path.{_≡_};
+ghost use mathlib.Core.Bool.{false, not, _&&_};
+ghost use Prim.Native.Nat.{ℕ, _<_};
+ghost use lib.ListN.{getD};
+ghost use Rattle.words.specs.Loops.{all, allBelow};
+ghost use Rattle.chart.specs.View.{view};
+ghost use Rattle.chart_rules.specs.Rules.{ChartRules};
+ghost use Rattle.states.specs.Cells.{cells};
+ghost use Rattle.meaning.specs.Scope.{beneath, targetsOf, aboveAll, scope, scoped, related};
+ghost use Rattle.meaning.specs.Taken.{holds, condition, enabled, takenAt, takens};
+use chart::Literal;
+use states::StateSet;
+
+// Whether every target of transition k is below o.
+fn all_beneath(t: &[u16], k: usize, o: usize) -> bool
+    requires { ⌜ k < 48 ⌝ }
+    ensures { λ r. ⌜ r ≡ all (beneath (view (now (t .entry))) o) (targetsOf (view (now (t .entry))) k) ⌝ }
+{
+    let at = chart::transition_at(t, k);
+    let mut i = words::number(t, at + chart::AIMS);
+    let mut left = words::number(t, at + chart::AIMS + 1);
+    while 0 < left {
+        if !active::is_beneath(t, o, chart::target_word(t, i)) {
+            return false;
+        }
+        i += 1;
+        left -= 1;
+    }
+    true
+}
+
+// Whether o is an or-state above the source and every target of transition k.
+fn is_above_all(t: &[u16], k: usize, o: usize) -> bool
+    requires { ⌜ (k < 48) × (o < 48) ⌝ }
+    ensures { λ r. ⌜ r ≡ aboveAll (view (now (t .entry))) k o ⌝ }
+{
+    let source = chart::transition_word(t, k, chart::SOURCE);
+    let above = words::both(active::is_beneath(t, o, source), all_beneath(t, k, o));
+    words::both(!chart::is_and(t, o), above)
+}
+
+// The scope of transition k: going up from its source, the first or-state above every target.
+pub fn scope_of(t: &[u16], k: usize) -> usize
+    requires { ⌜ ChartRules (now t) × (k < view (now t) .transitions) ⌝ }
+    ensures is { λ r. ⌜ r ≡ scope (view (now (t .entry))) k ⌝ }
+    ensures small { λ r. ⌜ r < view (now (t .entry)) .states ⌝ }
+{
+    let mut o = chart::transition_word(t, k, chart::SOURCE);
+    while 0 < o {
+        o = chart::state_word(t, o, chart::PARENT);
+        if is_above_all(t, k, o) {
+            return o;
+        }
+    }
+    o
+}
+
+// Whether transition k has targets, and so a scope.
+pub fn is_scoped(t: &[u16], k: usize) -> bool
+    requires { ⌜ k < 48 ⌝ }
+    ensures { λ r. ⌜ r ≡ scoped (view (now (t .entry))) k ⌝ }
+{
+    words::number(t, chart::transition_at(t, k) + chart::AIMS + 1) != 0
+}
+
+// Whether the scopes of two transitions are related.
+fn are_related(t: &[u16], s: usize, k: usize) -> bool
+    requires { ⌜ ChartRules (now t) × (s < view (now t) .transitions) × (k < view (now t) .transitions) ⌝ }
+    ensures { λ r. ⌜ r ≡ related (view (now (t .entry))) s k ⌝ }
+{
+    if !words::both(is_scoped(t, s), is_scoped(t, k)) {
+        return false;
+    }
+    let a = scope_of(t, s);
+    let b = scope_of(t, k);
+    if chart::is_within(t, a, b) {
+        return true;
+    }
+    chart::is_within(t, b, a)
+}
+
+// Whether a literal holds.
+fn does_hold(literal: Literal, acts: StateSet, vars: &[u16]) -> bool
+    ensures { λ r. ⌜ r ≡ holds (cells acts) (now (vars .entry)) literal ⌝ }
+{
+    match literal {
+        Literal::Active(a) => states::has(acts, words::wide(a)),
+        Literal::NotActive(a) => !states::has(acts, words::wide(a)),
+        Literal::AtLeast(a, b) => !words::is_below(words::word(vars, words::wide(a)), b),
+        Literal::Less(a, b) => words::is_below(words::word(vars, words::wide(a)), b),
+    }
+}
+
+// Whether all literals of transition k hold.
+fn meets_condition(t: &[u16], acts: StateSet, vars: &[u16], k: usize) -> bool
+    requires { ⌜ k < 48 ⌝ }
+    ensures { λ r. ⌜ r ≡ condition (view (now (t .entry))) (cells acts) (now (vars .entry)) k ⌝ }
+{
+    let at = chart::transition_at(t, k);
+    let mut i = words::number(t, at + chart::ASKS);
+    let mut left = words::number(t, at + chart::ASKS + 1);
+    while 0 < left {
+        if !does_hold(chart::literal_at(t, i), acts, vars) {
+            return false;
+        }
+        i += 1;
+        left -= 1;
+    }
+    true
+}
+
+// Whether transition k is enabled.
+fn is_enabled(t: &[u16], e: usize, acts: StateSet, vars: &[u16], k: usize) -> bool
+    requires { ⌜ k < 48 ⌝ }
+    ensures { λ r. ⌜ r ≡ enabled (view (now (t .entry))) e (cells acts) (now (vars .entry)) k ⌝ }
+{
+    let at = chart::transition_at(t, k);
+    if words::number(t, at + chart::TRIGGER) != e {
+        return false;
+    }
+    if !states::has(acts, words::number(t, at + chart::SOURCE)) {
+        return false;
+    }
+    meets_condition(t, acts, vars, k)
+}
+
+// Whether no transition of `taken` before k has a related scope.
+fn is_free(t: &[u16], k: usize, taken: StateSet) -> bool
+    requires { ⌜ ChartRules (now t) × (k < view (now t) .transitions) ⌝ }
+    ensures { λ r. ⌜ r ≡ allBelow (λ s. not (getD (cells taken) s false && related (view (now (t .entry))) s k)) k ⌝ }
+{
+    let mut s = 0;
+    while s < k {
+        if states::has(taken, s) {
+            if are_related(t, s, k) {
+                return false;
+            }
+        }
+        s += 1;
+    }
+    true
+}
+
+// Whether transition k is taken, where `taken` has those before it.
+fn is_taken_at(t: &[u16], e: usize, acts: StateSet, vars: &[u16], k: usize, taken: StateSet) -> bool
+    requires { ⌜ ChartRules (now t) × (k < view (now t) .transitions) ⌝ }
+    ensures { λ r. ⌜ r ≡ takenAt (view (now (t .entry))) e (cells acts) (now (vars .entry)) k (cells taken) ⌝ }
+{
+    if !is_enabled(t, e, acts, vars, k) {
+        return false;
+    }
+    is_free(t, k, taken)
+}
+
+// The transitions taken.
+pub fn taken_set(t: &[u16], e: usize, acts: StateSet, vars: &[u16]) -> StateSet
+    requires { ⌜ ChartRules (now t) ⌝ }
+    ensures { λ r. ⌜ ((k : ℕ) → getD (cells r) k false ≡ getD (takens (view (now (t .entry))) e (cells acts) (now (vars .entry))) k false) ⌝ }
+{
+    let n = words::number(t, chart::TRANSITIONS);
+    let mut taken = states::none();
+    let mut k = 0;
+    while k < n {
+        taken = states::with(taken, k, is_taken_at(t, e, acts, vars, k, taken));
+        k += 1;
+    }
+    taken
+}
