@@ -6,7 +6,18 @@ use mathlib.Core.List.{List}
 use Rattle.table.specs.Answers.{told}
 use Rattle.table.specs.declared.Verdict.{Verdict}
 use Rattle.chart_check.specs.Answer.{chartAnswer}
+use Rattle.meaning.specs.Calls.{startChart, runChart}
+use Rattle.engine.specs.Told.{startTold, ranTold}
+use Rattle.engine.specs.declared.ChartRun.{ChartRun}
 
 -- check_chart. 01, Order: "the table by rising number and then lowest place".
 pub record ChartChecked (chart : List ℕ) (answer : Verdict) : Type 0 where
   pub answered : told answer ≡ chartAnswer chart
+
+-- start_chart: its answer, and the state afterwards. `startChart` says both for anything at all.
+pub record ChartStarted (chart state : List ℕ) (answer : Verdict) (after : List ℕ) : Type 0 where
+  pub answered : startTold answer after ≡ startChart chart state
+
+-- run_chart: its answer with the counts, and every lent word afterwards. `runChart` says all of it for anything at all.
+pub record ChartRan (chart state : List ℕ) (event : ℕ) (outputs : List ℕ) (answer : ChartRun) (state-after outputs-after : List ℕ) : Type 0 where
+  pub answered : ranTold answer state-after outputs-after ≡ runChart chart state event outputs

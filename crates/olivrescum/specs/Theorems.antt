@@ -7,8 +7,9 @@ use Rattle.table.specs.Check.{Judged}
 use Rattle.table.specs.declared.Verdict.{Verdict}
 use Rattle.chart_rules.specs.Rules.{ChartRules}
 use Rattle.chart_check.specs.Answer.{chartRules, chartAnswer}
+use Rattle.engine.specs.declared.ChartRun.{ChartRun}
 use Rattle.chart_check.specs.RuleByRule.{RulesNumbered}
-use Rattle.olivrescum.specs.Promises.{ChartChecked}
+use Rattle.olivrescum.specs.Promises.{ChartChecked, ChartStarted, ChartRan}
 
 -- Demand 2: "A chart table is accepted exactly when it keeps 01's rules."
 abbrev pub AcceptedExactly : Type 0
@@ -27,6 +28,17 @@ RefusedAtLowest = (chart : List ℕ) → Judged 1 (chartRules chart) (chartAnswe
 abbrev pub RuleByRule : Type 0
 RuleByRule = (chart : List ℕ) → RulesNumbered chart
 
--- 01, What the promises say: "inputs determine the answer".
+-- 01, What the promises say: "inputs determine the answer and every lent word afterwards, refusals too".
 abbrev pub CheckDeterminate : Type 0
 CheckDeterminate = (chart : List ℕ) (a b : Verdict) → ChartChecked chart a → ChartChecked chart b → a ≡ b
+
+abbrev pub StartDeterminate : Type 0
+StartDeterminate =
+    (chart state : List ℕ) (a b : Verdict) (after-a after-b : List ℕ)
+    → ChartStarted chart state a after-a → ChartStarted chart state b after-b → (a ≡ b) × (after-a ≡ after-b)
+
+abbrev pub RunDeterminate : Type 0
+RunDeterminate =
+    (chart state : List ℕ) (event : ℕ) (outputs : List ℕ) (a b : ChartRun) (state-a state-b outputs-a outputs-b : List ℕ)
+    → ChartRan chart state event outputs a state-a outputs-a → ChartRan chart state event outputs b state-b outputs-b
+    → (a ≡ b) × (state-a ≡ state-b) × (outputs-a ≡ outputs-b)

@@ -2,7 +2,8 @@
 // 01. specs/Promises.antt says what is promised; the module `theorems` what is proved of the promises themselves.
 mod theorems;
 
-ghost use Rattle.olivrescum.specs.Promises.{ChartChecked};
+ghost use Rattle.olivrescum.specs.Promises.{ChartChecked, ChartStarted, ChartRan};
+use engine::ChartRun;
 use table::Verdict;
 
 // Is this a chart table?
@@ -10,4 +11,19 @@ pub fn check_chart(chart: &[u16]) -> Verdict
     ensures { λ r. ⌜ ChartChecked (now (chart .entry)) r ⌝ }
 {
     chart_check::check(chart)
+}
+
+// Writes the start state of a chart into `state`.
+pub fn start_chart(chart: &[u16], state: &mut [u16]) -> Verdict
+    ensures { λ r. ⌜ ChartStarted (now (chart .entry)) (now (state .entry)) r (now (state .exit)) ⌝ }
+{
+    engine::start(chart, state)
+}
+
+// Runs one event on a chart to the end of its macrostep. `state` becomes the state after it; `outputs` gets two words for
+// each output: number and value.
+pub fn run_chart(chart: &[u16], state: &mut [u16], event: u32, outputs: &mut [u16]) -> ChartRun
+    ensures { λ r. ⌜ ChartRan (now (chart .entry)) (now (state .entry)) event (now (outputs .entry)) r (now (state .exit)) (now (outputs .exit)) ⌝ }
+{
+    engine::run(chart, state, event, outputs)
 }

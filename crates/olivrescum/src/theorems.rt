@@ -1,7 +1,7 @@
 // What is proved of the promises and of the definitions that they stand on. Each function does nothing: its contract is
-// the theorem. specs/Theorems.antt has the statements.
-ghost use Rattle.words.specs.Adds.{Adds};
-ghost use Rattle.olivrescum.specs.Theorems.{AcceptedExactly, RefusedAtLowest, RuleByRule, CheckDeterminate};
+// the theorem. specs/Theorems.antt and specs/Examples.antt have the statements.
+ghost use Rattle.olivrescum.specs.Theorems.{AcceptedExactly, RefusedAtLowest, RuleByRule, CheckDeterminate, StartDeterminate, RunDeterminate};
+ghost use Rattle.olivrescum.specs.Examples.{Examples};
 
 // A chart table is accepted exactly when it keeps the rules.
 pub fn accepted_exactly()
@@ -23,7 +23,17 @@ pub fn check_determinate()
     ensures { λ r. ⌜ CheckDeterminate ⌝ }
 {}
 
-// The document's examples on adds.
-pub fn adds()
-    ensures { λ r. ⌜ Adds ⌝ }
+// What is promised of start_chart leaves it one answer, and one word for every word lent.
+pub fn start_determinate()
+    ensures { λ r. ⌜ StartDeterminate ⌝ }
+{}
+
+// What is promised of run_chart leaves it one answer, and one word for every word lent.
+pub fn run_determinate()
+    ensures { λ r. ⌜ RunDeterminate ⌝ }
+{}
+
+// The document's examples: the aid chart's start and seven steps, and the adds.
+pub fn examples()
+    ensures { λ r. ⌜ Examples ⌝ }
 {}

@@ -1,0 +1,36 @@
+-- What a start and a run of a chart say, in 01's numbers, beside the lent words afterwards.
+use Prim.Native.Nat.{ℕ}
+use mathlib.Core.List.{List}
+use Rattle.table.specs.Answers.{told, refusalTold}
+use Rattle.table.specs.declared.Verdict.{Verdict}
+use Rattle.effects.specs.declared.Progress.{Progress}
+use Rattle.meaning.specs.Calls.{Started, Ran, refusedRun}
+use Rattle.engine.specs.declared.Counts.{Counts}
+use Rattle.engine.specs.declared.ChartRun.{ChartRun}
+use Rattle.engine.specs.declared.ChartRun.the-variants.{Done, Refused}
+
+abbrev pub startTold : Verdict → List ℕ → Started
+startTold v state = record { answer = told v; state = state }
+
+abbrev pub ranTold : ChartRun → List ℕ → List ℕ → Ran
+ranTold (Done n) state outputs = record {
+  answer = (0, 0);
+  microsteps = n .microsteps;
+  taken = n .taken;
+  left = n .left;
+  entered = n .entered;
+  given = n .outputs;
+  state = state;
+  outputs = outputs;
+}
+ranTold (Refused r) state outputs = refusedRun (refusalTold r) state outputs
+
+-- What is reported of a finished macrostep.
+abbrev pub countsOf : Progress → Counts
+countsOf n = record {
+  microsteps = n .micro;
+  taken = n .taken;
+  left = n .left;
+  entered = n .entered;
+  outputs = n .outs;
+}
