@@ -5,6 +5,7 @@ ghost use Prim.Native.Nat.{_+_, _-_, _*_, _<_, _≤_, min};
 ghost use lib.ListN.{set};
 ghost use Rattle.io.specs.Counts.{Counts};
 ghost use Rattle.table.specs.Answers.{refusalTold, told};
+use engine::ChartRun;
 use libc::STDIN_FILENO;
 use libc::STDOUT_FILENO;
 use table::Refusal;
@@ -70,6 +71,28 @@ pub fn place_of(verdict: Verdict) -> u32
     answer.1
 }
 
+// What a run of a chart says, without its counts.
+pub fn verdict_of(run: ChartRun) -> Verdict {
+    match run {
+        ChartRun::Done(_) => Verdict::Done,
+        ChartRun::Refused(refusal) => Verdict::Refused(refusal),
+    }
+}
+
+// Its counts: those of a refusal are 0.
+pub fn counts_of(run: ChartRun) -> engine::Counts {
+    match run {
+        ChartRun::Done(counts) => counts,
+        ChartRun::Refused(_) => engine::Counts {
+            microsteps: 0,
+            taken: 0,
+            left: 0,
+            entered: 0,
+            outputs: 0,
+        },
+    }
+}
+
 // The smaller of two numbers.
 fn least(a: usize, b: usize) -> usize
     ensures { λ r. ⌜ (r ≡ min a b) × (r ≤ a) × (r ≤ b) ⌝ }
@@ -122,6 +145,20 @@ pub fn read_words(words: &mut [u16], from: usize, to: usize) -> usize
         at = next;
     }
     least(at, words.len())
+}
+
+// As many words of `room` as are asked for, and no more than it has.
+pub fn lent(words: usize, room: &[u16]) -> usize
+    ensures { λ r. ⌜ Counts r (now (room .entry)) ⌝ }
+{
+    least(words, room.len())
+}
+
+// Fills `bytes` from standard input. Answers how many came: fewer than there is room for where the input ended.
+pub fn read_bytes(bytes: &mut [u8]) -> usize
+    ensures { λ r. ⌜ Counts r (now (bytes .exit)) ⌝ }
+{
+    io::read_full(STDIN_FILENO, bytes)
 }
 
 // Text on its way to standard output. How many of its bytes wait is a number beside it, `at`.
@@ -190,6 +227,14 @@ pub fn put_signed(text: &mut Text, at: usize, word: u16) -> usize {
 pub fn put_field(text: &mut Text, at: usize, number: u32) -> usize {
     let at = put_byte(text, at, b' ');
     put_number(text, at, number)
+}
+
+// Puts a field for each count of a run but its outputs.
+pub fn put_counts(text: &mut Text, at: usize, counts: engine::Counts) -> usize {
+    let at = put_field(text, at, counts.microsteps);
+    let at = put_field(text, at, counts.taken);
+    let at = put_field(text, at, counts.left);
+    put_field(text, at, counts.entered)
 }
 
 // Puts a newline.

@@ -1,13 +1,12 @@
 // Runs cases on the public calls: reads one after the other from standard input until it ends, and prints what each
 // call said. A case is six words, then those of its table and of its state, then two words for each event of a
-// flattening. Each call has a function that runs it and prints its lines; `run_case` knows which call has which
-// number.
+// flattening. Each call has a function that runs it and prints its lines; `run_case` knows which call has which number.
 ghost use mathlib.Core.Path.{_≡_};
-ghost use Prim.Native.Nat.{_+_, _*_};
+ghost use Prim.Native.Nat.{_+_, _*_, _<_, _%_};
 use shell::Text;
 
-// What the first six words of a case say. `number` is the event, or how many events follow a flattening; `room`
-// counts the words that are lent for outputs or for a flat table.
+// What the first six words of a case say. `number` is the event, or how many events follow a flattening; `room` counts
+// the words that are lent for outputs or for a flat table.
 struct Case {
     call: u16,
     number: u32,
@@ -43,6 +42,72 @@ fn check_chart(chart: &[u16], text: &mut Text, at: usize) -> usize {
     shell::put_newline(text, at)
 }
 
+// The checksum of all words of a slice.
+fn checksum(words: &[u16]) -> u32
+    ensures { λ r. ⌜ r < 65521 ⌝ }
+{
+    let mut sum: u32 = 1;
+    let mut k = 0;
+    while k < words.len() {
+        sum = next_sum(sum, words[k]);
+        k += 1;
+    }
+    sum
+}
+
+// The checksum of one word more.
+fn next_sum(sum: u32, word: u16) -> u32
+    requires { ⌜ sum < 65521 ⌝ }
+    ensures { λ r. ⌜ r ≡ (sum * 31 + word) % 65521 ⌝ }
+    ensures { λ r. ⌜ r < 65521 ⌝ }
+{
+    (sum * 31 + word as u32) % 65521
+}
+
+// Call 2: start a chart. Prints call, answer, place and the state's checksum.
+fn start_chart(chart: &[u16], state: &mut [u16], text: &mut Text, at: usize) -> usize {
+    let verdict = olivrescum::start_chart(chart, state);
+    let at = shell::put_number(text, at, 2);
+    let at = shell::put_field(text, at, shell::number_of(verdict));
+    let at = shell::put_field(text, at, shell::place_of(verdict));
+    let at = shell::put_field(text, at, checksum(state));
+    shell::put_newline(text, at)
+}
+
+// Call 3: run one event on a chart. Prints call, answer, place, the counts, and the checksums of state and outputs.
+fn run_chart(case: Case, chart: &[u16], state: &mut [u16], text: &mut Text, at: usize) -> usize {
+    let mut room = [42405u16; 600];
+    let words = shell::lent(case.room, &room);
+    run_chart_in(&mut room[..words], case.number, chart, state, text, at)
+}
+
+// The same in the words that are lent for outputs.
+fn run_chart_in(
+    outputs: &mut [u16],
+    event: u32,
+    chart: &[u16],
+    state: &mut [u16],
+    text: &mut Text,
+    at: usize,
+) -> usize {
+    let run = olivrescum::run_chart(chart, state, event, outputs);
+    let at = put_run(text, at, run);
+    let at = shell::put_field(text, at, checksum(state));
+    let at = shell::put_field(text, at, checksum(outputs));
+    shell::put_newline(text, at)
+}
+
+// Puts what a run of a chart says: call, answer, place and the counts.
+fn put_run(text: &mut Text, at: usize, run: engine::ChartRun) -> usize {
+    let verdict = shell::verdict_of(run);
+    let counts = shell::counts_of(run);
+    let at = shell::put_number(text, at, 3);
+    let at = shell::put_field(text, at, shell::number_of(verdict));
+    let at = shell::put_field(text, at, shell::place_of(verdict));
+    let at = shell::put_counts(text, at, counts);
+    shell::put_field(text, at, counts.outputs)
+}
+
 // Reads over the two words an event that follow a flattening.
 fn skip_events(count: u32, words: &mut [u16]) {
     shell::read_words(words, 0, 2 * count as usize);
@@ -52,10 +117,18 @@ fn skip_events(count: u32, words: &mut [u16]) {
 fn run_case(case: Case, table: &mut [u16], text: &mut Text, at: usize) -> usize {
     let table_words = shell::read_words(table, 0, case.table_words);
     let mut state = [0u16; 47];
-    shell::read_words(&mut state, 0, case.state_words);
+    let state_words = shell::read_words(&mut state, 0, case.state_words);
     let call = case.call;
     match call {
         1 => check_chart(&table[..table_words], text, at),
+        2 => start_chart(&table[..table_words], &mut state[..state_words], text, at),
+        3 => run_chart(
+            case,
+            &table[..table_words],
+            &mut state[..state_words],
+            text,
+            at,
+        ),
         7 => {
             skip_events(case.number, table);
             at
@@ -69,8 +142,8 @@ fn read_head(head: &mut [u16; 6]) -> bool {
     shell::read_words(head, 0, 6) == 6
 }
 
-// A loop has to end, and nothing says that the input does: the cases are counted down from a number that no run uses
-// up.
+// Runs all cases of the input. A loop has to end, and nothing says that the input does: the cases are counted down from
+// a number that no run uses up.
 fn run_cases(table: &mut [u16], text: &mut Text) -> usize {
     let mut head = [0u16; 6];
     let mut at = 0;
