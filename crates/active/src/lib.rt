@@ -35,7 +35,7 @@ fn rank_after(t: &[u16], k: usize, r: u16) -> u16
 pub fn or_ranks(t: &[u16], ranks: &mut [u16]) -> usize
     requires { ⌜ ChartRules (now t) × (48 ≤ length (now ranks)) ⌝ }
     ensures is { λ r. ⌜ r ≡ orStates (view (now (t .entry))) ⌝ }
-    ensures few { λ r. ⌜ r ≤ 48 ⌝ }
+    ensures few { λ r. ⌜ r ≤ 24 ⌝ }
     ensures ranks { λ r. ⌜ Ranks (view (now (t .entry))) (now (ranks .exit)) ⌝ }
 {
     let n = words::number(t, chart::STATES);

@@ -1,12 +1,11 @@
 -- Each test of specs/Tests.antt tells its rule of specs/Rules.antt. Assumes nothing.
-use Prim.Native.Nat.{ℕ, _+_, _*_}
+use Prim.Native.Nat.{ℕ}
 use mathlib.Core.List.{List}
 use lib.ListN.{length}
-use Rattle.words.specs.Loops.{between?}
 use Rattle.words.proofs.Tells.{Tells, eq, le, said, _and_}
-use Rattle.table.specs.Layout.{Follows, follows?}
+use Rattle.table.proofs.Headers.{between, follow}
 use Rattle.chart.specs.View.{Chart, at}
-use Rattle.chart_head.specs.Rules.{GoodForm, Between, GoodCounts, GoodLayout}
+use Rattle.chart_head.specs.Rules.{GoodForm, GoodCounts, GoodLayout}
 use Rattle.chart_head.specs.Tests.{goodForm?, goodCounts?, goodLayout?}
 
 -- ---- rule 1
@@ -18,9 +17,6 @@ form t =
     (λ g. (g .header, (g .form, g .total)))
 
 -- ---- rule 2
-between : (low high x : ℕ) → Tells (between? low high x) (Between low high x)
-between low high x = le low x and le x high
-
 pub counts : (c : Chart) → Tells (goodCounts? c) (GoodCounts c)
 unfolding goodCounts?
 counts c =
@@ -45,9 +41,6 @@ counts c =
     ))
 
 -- ---- rule 3
-follow : (t : List ℕ) (next here size count : ℕ) → Tells (follows? t next here size count) (Follows t next here size count)
-follow t next here size count = eq (at t next) (at t here + size * at t count)
-
 pub layout : (t : List ℕ) → Tells (goodLayout? t) (GoodLayout t)
 unfolding goodLayout?
 layout t =

@@ -3,7 +3,7 @@ use Prim.Native.Nat.{ℕ, _≤_}
 use mathlib.Core.Path.{_≡_}
 use mathlib.Core.List.{List}
 use lib.ListN.{length}
-use Rattle.table.specs.Layout.{Follows}
+use Rattle.table.specs.Layout.{Between, Follows}
 use Rattle.chart.specs.View.{Chart, at}
 
 -- Rule 1 (its opposite in 01: "shorter than its header, wrong form, total not the slice's length").
@@ -11,9 +11,6 @@ pub record GoodForm (t : List ℕ) : Type 0 where
   pub header : 16 ≤ length t
   pub form : at t 0 ≡ 1
   pub total : at t 1 ≡ length t
-
-abbrev pub Between : ℕ → ℕ → ℕ → Type 0
-Between low high x = (low ≤ x) × (x ≤ high)
 
 -- Rule 2. 01, Ranges: "n 2..48, T 0..48, e 1..32, s 0..32, o 0..64, v 0..16, targets 0..192, literals 0..192, items
 -- 0..512".

@@ -5,11 +5,12 @@ use mathlib.Core.Path.{_≡_, refl, ap, _∙_}
 use mathlib.Core.Bool.{true, false}
 use mathlib.Core.List.{List, _∷_}
 use native.Mathlib.Omega.{arith}
+use lib.ListN.{getD}
 use Rattle.words.specs.Loops.{many}
 use Rattle.table.specs.declared.Item.{Item}
 use Rattle.table.specs.Triple.{tripleAt}
 use Rattle.table.specs.Items.{itemIn}
-use Rattle.effects.specs.Work.{Work, stopped?, doItem, doItems, itemsFrom}
+use Rattle.effects.specs.Work.{Work, stopped?, doItem, doItems, itemsFrom, spanItems}
 
 module _ (t : List ℕ) (room at k : ℕ) (w : Work) where
   pub step : 0 < k → stopped? (w .n .stop) ≡ false
@@ -37,3 +38,9 @@ itemsFrom-many t base first (suc count) =
     let e : base + 3 * first + 3 ≡ base + 3 * suc first = omega arith in
     ap (λ (xs : List Item). itemIn (tripleAt t (base + 3 * first)) ∷ xs)
     (ap (λ (at : ℕ). itemsFrom t at count) e ∙ itemsFrom-many t base (suc first) count)
+
+-- the items of a span, read word by word
+pub span-items : (t : List ℕ) (base at from first count : ℕ) → from ≡ getD t base 0 → first ≡ getD t at 0 → count ≡ getD t (at + 1) 0
+    → itemsFrom t (from + 3 * first) count ≡ spanItems t base at
+unfolding spanItems
+span-items t base at from first count p q r = rw (p, q, r) (itemsFrom-many t (getD t base 0) (getD t at 0) (getD t (at + 1) 0))

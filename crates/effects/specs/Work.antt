@@ -7,6 +7,7 @@ use Prim.Native.Nat.{ℕ, zero, suc, _+_, _*_, _%_}
 use lib.ListN.{getD, set}
 use lib.Dec.{eqb, leb}
 use Rattle.words.specs.Signed.{wrapAdd, satAdd}
+use Rattle.words.specs.Loops.{many}
 use Rattle.table.specs.Triple.{tripleAt}
 use Rattle.table.specs.Items.{itemIn}
 use Rattle.table.specs.declared.Item.{Item}
@@ -124,6 +125,10 @@ doItems room (x ∷ xs) w = cond (stopped? (w .n .stop)) w (doItems room xs (doI
 unfoldable pub itemsFrom : List ℕ → ℕ → ℕ → List Item
 itemsFrom t at zero = []
 itemsFrom t at (suc k) = itemIn (tripleAt t at) ∷ itemsFrom t (at + 3) k
+
+-- the items of the span whose two words begin at `at`, of the section that begins where word `base` says
+unfoldable pub spanItems : List ℕ → ℕ → ℕ → List Item
+spanItems t base at = many (λ i. itemIn (tripleAt t (getD t base 0 + 3 * i))) (getD t at 0) (getD t (at + 1) 0)
 
 -- ---- steps
 abbrev pub counted : Tag → Progress → Progress

@@ -4,7 +4,7 @@ ghost use mathlib.Core.Path.{_≡_};
 ghost use Prim.Native.Nat.{_+_, _*_, _<_};
 ghost use lib.ListN.{getD};
 ghost use Rattle.effects.specs.Run.{leave, take, enter};
-ghost use Rattle.effects.specs.Work.{more, work, stopped?, stopAt, doEmit, doRaise, doItem, doItems, itemsFrom, counted, microDone, popped, ended?, fresh, refusalOf};
+ghost use Rattle.effects.specs.Work.{more, work, stopped?, stopAt, doEmit, doRaise, doItem, doItems, itemsFrom, spanItems, counted, microDone, popped, ended?, fresh, refusalOf};
 use table::Item;
 use table::Refusal;
 use table::Signal;
@@ -165,6 +165,25 @@ pub fn run_items(
         left -= 1;
     }
     m
+}
+
+// The items of the span whose two words begin at `at`, of the section that word `base` is the offset of.
+pub fn run_span(
+    t: &[u16],
+    base: usize,
+    at: usize,
+    room: usize,
+    vars: &mut [u16],
+    outs: &mut [u16],
+    queue: &mut [u16],
+    n: Progress,
+) -> Progress
+    requires { ⌜ at < 1000000 ⌝ }
+    ensures { λ r. ⌜ work r (now (vars .exit)) (now (outs .exit)) (now (queue .exit)) ≡ doItems room (spanItems (now (t .entry)) base at) (work n (now (vars .entry)) (now (outs .entry)) (now (queue .entry))) ⌝ }
+{
+    let first = words::number(t, base) + 3 * words::number(t, at);
+    let count = words::number(t, at + 1);
+    run_items(t, first, count, room, vars, outs, queue, n)
 }
 
 // A state is left.

@@ -6,72 +6,55 @@ use mathlib.Core.Bool.{true, false}
 use mathlib.Core.List.{List}
 use lib.Dec.{eqb}
 use lib.ListN.{length}
-use Rattle.words.proofs.Tests.{clash, eqb-eq, ltb-yes, ltb-no, and-l}
-use Rattle.table.specs.Answers.{told, refusalTold}
+use Rattle.words.proofs.Tests.{eqb-eq, ltb-yes, ltb-no, and-l}
+use Rattle.table.specs.Answers.{told}
 use Rattle.table.specs.declared.Refusal.{Refusal}
-use Rattle.table.specs.declared.Refusal.the-variants.{ChartForm, ChartCount, ChartLayout, ChartTree, ChartSpan, ChartLiteral, ChartItem, ChartSource, ChartTargets, FlatForm, FlatCount, FlatLayout, FlatMachine, FlatSpan, FlatLiteral, FlatItem, FlatRule, NoEvent, Signals, Outputs, Microsteps, State, Room}
+use Rattle.table.specs.declared.Refusal.the-variants.{NoEvent, State}
 use Rattle.table.specs.declared.Verdict.{Verdict}
 use Rattle.table.specs.declared.Verdict.the-variants.{Done as accepting, Refused as refusing}
 use Rattle.table.proofs.Answers.{told-once}
+use Rattle.effects.specs.Lent.{Started, startTold}
+use Rattle.effects.proofs.Calls.{call-accepted, call-refused, done-not-refused}
 use Rattle.chart.specs.View.{Chart, view}
 use Rattle.chart_rules.specs.Rules.{ChartRules}
 use Rattle.chart_check.specs.Answer.{chartAnswer}
 use Rattle.chart_check.proofs.Exact.{exact}
 use Rattle.meaning.specs.State.{stateLength, stateOf?}
-use Rattle.meaning.specs.Calls.{Ran, startedOn, startChart, ranOn, ranAccepted, runChart}
-use Rattle.engine.specs.Told.{startTold, ranTold}
+use Rattle.meaning.specs.Calls.{Ran, refusedRun, startedOn, startChart, ranOn, ranAccepted, runChart}
+use Rattle.engine.specs.Told.{ranTold}
 use Rattle.engine.specs.declared.ChartRun.{ChartRun}
 use Rattle.engine.specs.declared.ChartRun.the-variants.{Done, Refused}
-
--- 0 is no refusal's number.
-pub refusal-not-0 : (r : Refusal) → eqb (refusalTold r .0) 0 ≡ false
-refusal-not-0 ChartForm = refl
-refusal-not-0 ChartCount = refl
-refusal-not-0 ChartLayout = refl
-refusal-not-0 (ChartTree p) = refl
-refusal-not-0 (ChartSpan p) = refl
-refusal-not-0 (ChartLiteral p) = refl
-refusal-not-0 (ChartItem p) = refl
-refusal-not-0 (ChartSource p) = refl
-refusal-not-0 (ChartTargets p) = refl
-refusal-not-0 FlatForm = refl
-refusal-not-0 FlatCount = refl
-refusal-not-0 FlatLayout = refl
-refusal-not-0 (FlatMachine p) = refl
-refusal-not-0 (FlatSpan p) = refl
-refusal-not-0 (FlatLiteral p) = refl
-refusal-not-0 (FlatItem p) = refl
-refusal-not-0 (FlatRule p) = refl
-refusal-not-0 NoEvent = refl
-refusal-not-0 Signals = refl
-refusal-not-0 Outputs = refl
-refusal-not-0 Microsteps = refl
-refusal-not-0 State = refl
-refusal-not-0 Room = refl
 
 -- ---- what the check's answer v makes of a call
 module _ (t : List ℕ) (v : Verdict) (e : told v ≡ chartAnswer t) where
   pub accepted : v ≡ accepting → ChartRules t
   accepted h = exact t .0 (sym e ∙ ap told h)
 
-  pub start-accepted : v ≡ accepting → (state : List ℕ) → startChart t state ≡ startedOn (view t) state
-  unfolding startChart
-  start-accepted h state = rw (sym e ∙ ap told h) refl
+  module _ (state : List ℕ) where
+    -- a start that is refused
+    abbrev unstarted : ℕ × ℕ → Started
+    unstarted a = record { answer = a; state = state }
 
-  pub start-refused : (r : Refusal) → v ≡ refusing r → (state : List ℕ)
-      → startTold (refusing r) state ≡ startChart t state
-  unfolding startChart
-  start-refused r h state = rw (sym e ∙ ap told h, refusal-not-0 r) refl
+    pub start-accepted : v ≡ accepting → startChart t state ≡ startedOn (view t) state
+    unfolding startChart
+    start-accepted h = call-accepted (chartAnswer t) (startedOn (view t) state) unstarted v e h
 
-  pub run-accepted : v ≡ accepting → (state : List ℕ) (event : ℕ) (outputs : List ℕ)
-      → runChart t state event outputs ≡ ranAccepted (view t) state event outputs
-  unfolding runChart
-  run-accepted h state event outputs = rw (sym e ∙ ap told h) refl
+    pub start-refused : (r : Refusal) → v ≡ refusing r → startTold (refusing r) state ≡ startChart t state
+    unfolding startChart
+    start-refused r h = sym (call-refused (chartAnswer t) (startedOn (view t) state) unstarted v e r h)
 
-  pub run-refused : (r : Refusal) → v ≡ refusing r → (state : List ℕ) (event : ℕ) (outputs : List ℕ)
-      → ranTold (Refused r) state outputs ≡ runChart t state event outputs
-  unfolding runChart
-  run-refused r h state event outputs = rw (sym e ∙ ap told h, refusal-not-0 r) refl
+  module _ (state : List ℕ) (event : ℕ) (outputs : List ℕ) where
+    -- a run that is refused
+    abbrev unrun : ℕ × ℕ → Ran
+    unrun a = refusedRun a state outputs
+
+    pub run-accepted : v ≡ accepting → runChart t state event outputs ≡ ranAccepted (view t) state event outputs
+    unfolding runChart
+    run-accepted h = call-accepted (chartAnswer t) (ranAccepted (view t) state event outputs) unrun v e h
+
+    pub run-refused : (r : Refusal) → v ≡ refusing r → ranTold (Refused r) state outputs ≡ runChart t state event outputs
+    unfolding runChart
+    run-refused r h = sym (call-refused (chartAnswer t) (ranAccepted (view t) state event outputs) unrun v e r h)
 
 -- ---- what a lent state and an event make of a run
 pub long-state : (c : Chart) (state : List ℕ) → stateOf? c state ≡ true → length state ≡ stateLength c
@@ -94,12 +77,6 @@ module _ (c : Chart) (state : List ℕ) (event : ℕ) (outputs : List ℕ) where
   good-call h l = rw (h, ltb-yes event (c .events) l) refl
 
 -- ---- what a run tells determines its answer and the words that it leaves
--- a done run tells of no refusal
-done-not-refused : {X : Type 0} (r : Refusal) (a b : Ran) → a .answer ≡ (0, 0) → b .answer ≡ refusalTold r → a ≡ b → X
-done-not-refused r a b p q e =
-    clash (eqb (refusalTold r .0) 0) (ap (λ (x : ℕ × ℕ). eqb (x .0) 0) (sym q ∙ sym (ap (λ (x : Ran). x .answer) e) ∙ p))
-    (refusal-not-0 r)
-
 -- the answer of a done run
 done-of : Ran → ChartRun
 done-of r = Done (record {
@@ -114,8 +91,8 @@ pub ran-once : (a b : ChartRun) (state₁ state₂ outputs₁ outputs₂ : List 
     → ranTold a state₁ outputs₁ ≡ ranTold b state₂ outputs₂ → (a ≡ b) × (state₁ ≡ state₂) × (outputs₁ ≡ outputs₂)
 unfolding done-of
 ran-once (Done m) (Done n) s₁ s₂ o₁ o₂ e = (ap done-of e, ap (λ (x : Ran). x .state) e, ap (λ (x : Ran). x .outputs) e)
-ran-once (Done m) (Refused r) s₁ s₂ o₁ o₂ e = done-not-refused r _ _ refl refl e
-ran-once (Refused r) (Done m) s₁ s₂ o₁ o₂ e = done-not-refused r _ _ refl refl (sym e)
+ran-once (Done m) (Refused r) s₁ s₂ o₁ o₂ e = done-not-refused r (ap (λ (x : Ran). x .answer) e)
+ran-once (Refused r) (Done m) s₁ s₂ o₁ o₂ e = done-not-refused r (ap (λ (x : Ran). x .answer) (sym e))
 ran-once (Refused r) (Refused q) s₁ s₂ o₁ o₂ e =
     let same : refusing r ≡ refusing q = told-once (refusing r) (refusing q) (ap (λ (x : Ran). x .answer) e) in
     (cc, ap (λ (x : Ran). x .state) e, ap (λ (x : Ran). x .outputs) e)

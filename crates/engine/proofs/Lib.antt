@@ -1,4 +1,3 @@
 -- `Answers`: what answers tell; `Finished`: what a run hands back of a macrostep.
 pub mod Answers
 pub mod Finished
-pub mod Turns

@@ -1,3 +1,2 @@
--- `Told`: what a start and a run say, in 01's numbers; `Space`: the lengths of what they work on.
+-- `Told`: what a run says, in 01's numbers.
 pub mod Told
-pub mod Space

@@ -1,16 +1,12 @@
--- What a start and a run of a chart say, in 01's numbers, beside the lent words afterwards.
+-- What a run of a chart says, in 01's numbers, beside the lent words afterwards.
 use Prim.Native.Nat.{ℕ}
 use mathlib.Core.List.{List}
-use Rattle.table.specs.Answers.{told, refusalTold}
-use Rattle.table.specs.declared.Verdict.{Verdict}
+use Rattle.table.specs.Answers.{refusalTold}
 use Rattle.effects.specs.declared.Progress.{Progress}
-use Rattle.meaning.specs.Calls.{Started, Ran, refusedRun}
+use Rattle.meaning.specs.Calls.{Ran, refusedRun}
 use Rattle.engine.specs.declared.Counts.{Counts}
 use Rattle.engine.specs.declared.ChartRun.{ChartRun}
 use Rattle.engine.specs.declared.ChartRun.the-variants.{Done, Refused}
-
-abbrev pub startTold : Verdict → List ℕ → Started
-startTold v state = record { answer = told v; state = state }
 
 abbrev pub ranTold : ChartRun → List ℕ → List ℕ → Ran
 ranTold (Done n) state outputs = record {

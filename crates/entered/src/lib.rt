@@ -12,7 +12,7 @@ ghost use Rattle.active.specs.Ranks.{Ranks};
 use states::StateSet;
 
 // Whether a target of transition k is below o.
-fn is_aimed(t: &[u16], k: usize, o: usize) -> bool
+pub fn is_aimed(t: &[u16], k: usize, o: usize) -> bool
     requires { ⌜ k < 48 ⌝ }
     ensures { λ r. ⌜ r ≡ aimed (view (now (t .entry))) k o ⌝ }
 {
@@ -30,7 +30,7 @@ fn is_aimed(t: &[u16], k: usize, o: usize) -> bool
 }
 
 // Whether state j is a target of transition k, or above one.
-fn does_lead(t: &[u16], k: usize, j: usize) -> bool
+pub fn does_lead(t: &[u16], k: usize, j: usize) -> bool
     requires { ⌜ k < 48 ⌝ }
     ensures { λ r. ⌜ r ≡ leads (view (now (t .entry))) k j ⌝ }
 {
@@ -63,7 +63,7 @@ fn is_chosen(t: &[u16], ranks: &[u16], current: &[u16], k: usize, j: usize) -> b
 }
 
 // Whether the or-state above j has a child entered: it is `top`, the scope, or below a state of `entered`.
-fn is_reached(t: &[u16], top: usize, j: usize, entered: StateSet) -> bool
+pub fn is_reached(t: &[u16], top: usize, j: usize, entered: StateSet) -> bool
     requires { ⌜ j < 48 ⌝ }
     ensures { λ r. ⌜ r ≡ reached (view (now (t .entry))) top j (cells entered) ⌝ }
 {

@@ -1,34 +1,19 @@
-// Lent words of an accepted chart: when they are a state of it, and how its words are copied, handed back and started. What
-// is copied is copied word by word, between slices of known lengths.
+// Lent words of an accepted chart: when they are a state of it, and how its words are handed back and started.
 ghost use mathlib.Core.Path.{_≡_};
 ghost use mathlib.Core.Bool.{false};
 ghost use mathlib.Core.List.{_++_};
-ghost use Prim.Native.Nat.{ℕ, _+_, _-_, _<_, _≤_};
-ghost use lib.ListN.{length, getD, take, drop};
+ghost use Prim.Native.Nat.{ℕ, _<_, _≤_};
+ghost use lib.ListN.{length, getD, drop};
 ghost use Rattle.words.specs.Loops.{allBelow};
 ghost use Rattle.chart.specs.View.{view};
 ghost use Rattle.chart_rules.specs.Rules.{ChartRules};
 ghost use Rattle.states.specs.Cells.{cells};
 ghost use Rattle.meaning.specs.Active.{isOr, active};
 ghost use Rattle.meaning.specs.Steps.{restWord, rest};
-ghost use Rattle.meaning.specs.State.{orStates, goodWord?, stateOf?, zeros, startWords};
-ghost use Rattle.meaning.specs.Calls.{roomFor};
+ghost use Rattle.meaning.specs.State.{orStates, goodWord?, stateOf?, startWords};
 ghost use Rattle.active.specs.Ranks.{Ranks};
 ghost use Rattle.lent.specs.Laid.{laid};
 use states::StateSet;
-
-// As many words as `to` has, of `from` from `at` on.
-pub fn load(to: &mut [u16], from: &[u16], at: usize)
-    requires { ⌜ (at ≤ 48) × (at + length (now to) ≤ length (now from)) ⌝ }
-    ensures { λ r. ⌜ now (to .exit) ≡ take (length (now (to .entry))) (drop at (now (from .entry))) ⌝ }
-{
-    let n = to.len();
-    let mut i = 0;
-    while i < n {
-        words::put(to, i, words::word(from, at + i));
-        i += 1;
-    }
-}
 
 // Whether or-state o's word is good in `words`, whose active states are `acts`.
 fn good_word(t: &[u16], ranks: &[u16], current: &[u16], acts: StateSet, o: usize) -> bool
@@ -135,40 +120,4 @@ pub fn lay_initials(t: &[u16], state: &mut [u16])
         );
         o += 1;
     }
-}
-
-// The words of `from`, behind the first `at` of `to`.
-pub fn store(to: &mut [u16], at: usize, from: &[u16])
-    requires { ⌜ (at ≤ 48) × (at + length (now from) ≡ length (now to)) ⌝ }
-    ensures { λ r. ⌜ now (to .exit) ≡ take at (now (to .entry)) ++ now (from .entry) ⌝ }
-{
-    let mut i = 0;
-    while i < from.len() {
-        words::put(to, at + i, words::word(from, i));
-        i += 1;
-    }
-}
-
-// Zeros behind the first `at` words.
-pub fn clear(to: &mut [u16], at: usize)
-    requires { ⌜ (at ≤ 48) × (at ≤ length (now to)) ⌝ }
-    ensures { λ r. ⌜ now (to .exit) ≡ take at (now (to .entry)) ++ zeros (length (now (to .entry)) - at) ⌝ }
-{
-    let mut i = at;
-    while i < to.len() {
-        words::put(to, i, 0);
-        i += 1;
-    }
-}
-
-// The smaller of 256 and the pairs that `lent` words have.
-pub fn room_of(lent: usize) -> usize
-    ensures is { λ r. ⌜ r ≡ roomFor lent ⌝ }
-    ensures few { λ r. ⌜ r ≤ 256 ⌝ }
-{
-    let pairs = lent / 2;
-    if 256 < pairs {
-        return 256;
-    }
-    pairs
 }

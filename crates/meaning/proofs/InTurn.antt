@@ -88,7 +88,7 @@ module _ {c : Chart} (w : Tree c) (e : ℕ) (words vars : List ℕ) where
       not-yes (related c s t) (rw here at (allBelow-at apart t s free l))
 
   -- one of two scopes at or above a state is at or above the other, so that they are related
-  scopes-related : (s t j : ℕ) → j < c .states → scoped c s ≡ true → scoped c t ≡ true
+  pub scopes-related : (s t j : ℕ) → j < c .states → scoped c s ≡ true → scoped c t ≡ true
       → within c (scope c s) j ≡ true → within c (scope c t) j ≡ true → related c s t ≡ true
   unfolding related
   scopes-related s t j h a b p q =

@@ -12,13 +12,14 @@ use Rattle.chart.specs.View.{Chart, view}
 use Rattle.chart_check.specs.Answer.{chartAnswer}
 use Rattle.meaning.specs.Steps.{chartMachine, rest}
 use Rattle.meaning.specs.State.{orStates, stateLength, wordsOf, varsOf, stateOf?}
-use Rattle.meaning.specs.Calls.{roomFor, ranOn, ranAccepted, finished, runChart}
+use Rattle.effects.specs.Lent.{roomFor}
+use Rattle.meaning.specs.Calls.{ranOn, ranAccepted, finished, runChart}
 use Rattle.meaning.specs.Theorems.{Children, RunLeavesState}
 use Rattle.meaning.proofs.Tree.{Tree, tree}
 use Rattle.meaning.proofs.State.{state-children, state-length, state-made}
 use Rattle.meaning.proofs.Sets.{microstep-children}
 use Rattle.meaning.proofs.Rest.{rest-length, rest-good}
-use Rattle.meaning.proofs.Keeps.{Holds, done, refused, Kept, macrostep-keeps}
+use Rattle.effects.proofs.Keeps.{Holds, done, refused, Kept, macrostep-keeps}
 
 -- what a macrostep from a state keeps
 abbrev pub RunKept : Chart → St → Type 0

@@ -13,7 +13,8 @@ use Rattle.words.proofs.Ranks.{rank-length, rank-at}
 use Rattle.chart.specs.View.{Chart, isAnd, IsOr, childOf?}
 use Rattle.meaning.specs.Active.{isOr, orRank, child, active}
 use Rattle.meaning.specs.Entered.{keepsWord}
-use Rattle.meaning.specs.State.{orStates, stateLength, wordsOf, goodWord?, stateOf?, zeros, startWords, startState}
+use Rattle.effects.specs.Lent.{zeros}
+use Rattle.meaning.specs.State.{orStates, stateLength, wordsOf, goodWord?, stateOf?, startWords, startState}
 use Rattle.meaning.specs.Theorems.{OneChild, Configuration, Children, StateHasChildren, Configured, StartIsState}
 use Rattle.meaning.proofs.Tree.{Tree, tree, child-told, child-and}
 use Rattle.meaning.proofs.Active.{active-root, active-step, active-and}
@@ -83,11 +84,11 @@ module _ {c : Chart} (w : Tree c) where
       by-bool (isAnd c o) (λ a. rw a refl)
       (λ a. rw a (by-bool (active c words o || keepsWord c o) (λ e. rw e (kid a)) (λ e. rw e (eqb-yes (init a e)))))
 
-  start-child : (o : ℕ) → o < c .states → isAnd c o ≡ false → child c (startWords c) o ≡ c .initial o
+  pub start-child : (o : ℕ) → o < c .states → isAnd c o ≡ false → child c (startWords c) o ≡ c .initial o
   unfolding child startWords orRank
   start-child o h a = rank-at (isOr c) (c .initial) 0 (c .states) o h (ap not a)
 
-  start-length : length (startWords c) ≡ orStates c
+  pub start-length : length (startWords c) ≡ orStates c
   unfolding startWords orStates
   start-length = rank-length (isOr c) (c .initial) (c .states)
 

@@ -1,5 +1,5 @@
 -- What a start and a run of a chart give: number, place and counts, and every lent word afterwards.
-use Prim.Native.Nat.{ℕ, _/_}
+use Prim.Native.Nat.{ℕ}
 use mathlib.Core.Bool.{Bool, true, false, cond}
 use mathlib.Core.List.{List, _++_}
 use lib.ListN.{length}
@@ -8,15 +8,11 @@ use Rattle.table.specs.Answers.{refusalTold}
 use Rattle.table.specs.declared.Refusal.{Refusal}
 use Rattle.table.specs.declared.Refusal.the-variants.{NoEvent, State}
 use Rattle.effects.specs.Run.{Result, ok, refuse, St, written, macrostep}
+use Rattle.effects.specs.Lent.{roomFor, Started}
 use Rattle.chart.specs.View.{Chart, view}
 use Rattle.chart_check.specs.Answer.{chartAnswer}
 use Rattle.meaning.specs.State.{stateLength, wordsOf, varsOf, stateOf?, startState}
 use Rattle.meaning.specs.Steps.{chartMachine, rest}
-
--- What a start leaves: its answer's number and place, and the lent state.
-pub record Started : Type 0 where
-  pub answer : ℕ × ℕ
-  pub state : List ℕ
 
 -- 01, Order: the table, then 24 ("a start tests only the length"). "A refusal ... changes no lent word."
 unfoldable pub startedOn : Chart → List ℕ → Started
@@ -51,10 +47,6 @@ refusedRun a state outputs = record {
   state = state;
   outputs = outputs;
 }
-
--- 22: "an output beyond 256 or beyond the lent pairs (an odd last word is no pair)".
-abbrev pub roomFor : ℕ → ℕ
-roomFor lent = let pairs = lent / 2 in cond (ltb 256 pairs) 256 pairs
 
 abbrev pub finished : Chart → Result St → List ℕ → List ℕ → Ran
 finished c (refuse r) state outputs = refusedRun (refusalTold r) state outputs

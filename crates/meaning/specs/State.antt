@@ -1,10 +1,11 @@
 -- Lent states: how long they are, when they are states of a chart, and the start state.
-use Prim.Native.Nat.{ℕ, zero, suc, _+_}
+use Prim.Native.Nat.{ℕ, _+_}
 use mathlib.Core.Bool.{Bool, true, false, not, _&&_, _||_, cond}
-use mathlib.Core.List.{List, [], _∷_, _++_}
+use mathlib.Core.List.{List, _++_}
 use lib.ListN.{length, getD, take, drop}
 use lib.Dec.{eqb}
 use Rattle.words.specs.Loops.{joinUp, allBelow, rank, when}
+use Rattle.effects.specs.Lent.{zeros}
 use Rattle.chart.specs.View.{Chart, childOf?}
 use Rattle.meaning.specs.Active.{isOr, child, active}
 use Rattle.meaning.specs.Entered.{keepsWord}
@@ -31,11 +32,6 @@ goodWord? c words o =
 -- The opposite of 24: "state of wrong length, or not a state of this table".
 unfoldable pub stateOf? : Chart → List ℕ → Bool
 stateOf? c state = eqb (length state) (stateLength c) && allBelow (goodWord? c (wordsOf c state)) (c .states)
-
--- As many zeros.
-abbrev pub zeros : ℕ → List ℕ
-zeros zero = []
-zeros (suc n) = 0 ∷ zeros n
 
 -- 01, State words: "The start state holds all initial children and zeros".
 unfoldable pub startWords : Chart → List ℕ

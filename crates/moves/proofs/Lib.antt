@@ -1,2 +1,2 @@
--- Laws of the steps of a transition: `Steps`, of items and steps as the code goes through them.
+-- Laws of the steps of a transition: `Steps`, of the items that they have.
 pub mod Steps

@@ -5,33 +5,14 @@ ghost use mathlib.Core.List.{List};
 ghost use Prim.Native.Nat.{ℕ, _<_, _≤_};
 ghost use lib.ListN.{getD};
 ghost use Rattle.words.specs.Loops.{when};
-ghost use Rattle.table.specs.Span.{spanAt};
-ghost use Rattle.effects.specs.Work.{work, going, doItems, doStep, doSteps};
+ghost use Rattle.effects.specs.Work.{going, doStep, doSteps};
 ghost use Rattle.chart.specs.View.{view};
 ghost use Rattle.states.specs.Cells.{cells};
-ghost use Rattle.meaning.specs.Steps.{itemsOf, leaveStep, takeStep, enterStep};
+ghost use Rattle.meaning.specs.Steps.{leaveStep, takeStep, enterStep};
 ghost use Rattle.active.specs.Ranks.{Ranks};
 ghost use Rattle.moves.specs.Below.{leftBelow, leavesBelow, entersAll};
 use effects::Progress;
 use states::StateSet;
-
-// The items of the span whose two words begin at `at`.
-fn run_span(
-    t: &[u16],
-    at: usize,
-    room: usize,
-    vars: &mut [u16],
-    outs: &mut [u16],
-    queue: &mut [u16],
-    n: Progress,
-) -> Progress
-    requires { ⌜ at < 1000000 ⌝ }
-    ensures { λ r. ⌜ work r (now (vars .exit)) (now (outs .exit)) (now (queue .exit)) ≡ doItems room (itemsOf (view (now (t .entry))) (spanAt (now (t .entry)) at)) (work n (now (vars .entry)) (now (outs .entry)) (now (queue .entry))) ⌝ }
-{
-    let first = words::number(t, chart::ITEMS_AT) + 3 * words::number(t, at);
-    let count = words::number(t, at + 1);
-    effects::run_items(t, first, count, room, vars, outs, queue, n)
-}
 
 // Whether state j is to be left: an and-state that was active, below `top`, the scope.
 fn is_left(t: &[u16], top: usize, acts: StateSet, j: usize) -> bool
@@ -62,8 +43,9 @@ fn leave_one(
     if !is_left(t, top, acts, j) {
         return n;
     }
-    run_span(
+    effects::run_span(
         t,
+        chart::ITEMS_AT,
         chart::state_at(t, j) + chart::EXITS,
         room,
         vars,
@@ -117,8 +99,9 @@ fn enter_one(
     }
     let o = chart::state_word(t, j, chart::PARENT);
     words::put(next, words::number(ranks, o), j as u16);
-    run_span(
+    effects::run_span(
         t,
+        chart::ITEMS_AT,
         chart::state_at(t, j) + chart::ENTRIES,
         room,
         vars,
@@ -166,8 +149,9 @@ pub fn take_own(
     requires { ⌜ k < 48 ⌝ }
     ensures { λ r. ⌜ ((next : List ℕ) → going r next (now (vars .exit)) (now (outs .exit)) (now (queue .exit)) ≡ doStep room (takeStep (view (now (t .entry))) k) (going n next (now (vars .entry)) (now (outs .entry)) (now (queue .entry)))) ⌝ }
 {
-    run_span(
+    effects::run_span(
         t,
+        chart::ITEMS_AT,
         chart::transition_at(t, k) + chart::DOES,
         room,
         vars,

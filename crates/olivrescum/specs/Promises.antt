@@ -7,8 +7,13 @@ use Rattle.table.specs.Answers.{told}
 use Rattle.table.specs.declared.Verdict.{Verdict}
 use Rattle.chart_check.specs.Answer.{chartAnswer}
 use Rattle.meaning.specs.Calls.{startChart, runChart}
-use Rattle.engine.specs.Told.{startTold, ranTold}
+use Rattle.effects.specs.Lent.{startTold}
+use Rattle.engine.specs.Told.{ranTold}
 use Rattle.engine.specs.declared.ChartRun.{ChartRun}
+use Rattle.flat_check.specs.Answer.{flatAnswer}
+use Rattle.flat_meaning.specs.Calls.{startFlat, runFlat}
+use Rattle.flat_engine.specs.Told.{flatRanTold}
+use Rattle.flat_engine.specs.declared.FlatRun.{FlatRun}
 
 -- check_chart. 01, Order: "the table by rising number and then lowest place".
 pub record ChartChecked (chart : List ℕ) (answer : Verdict) : Type 0 where
@@ -21,3 +26,15 @@ pub record ChartStarted (chart state : List ℕ) (answer : Verdict) (after : Lis
 -- run_chart: its answer with the counts, and every lent word afterwards. `runChart` says all of it for anything at all.
 pub record ChartRan (chart state : List ℕ) (event : ℕ) (outputs : List ℕ) (answer : ChartRun) (state-after outputs-after : List ℕ) : Type 0 where
   pub answered : ranTold answer state-after outputs-after ≡ runChart chart state event outputs
+
+-- check_flat: as for charts.
+pub record FlatTableChecked (flat : List ℕ) (answer : Verdict) : Type 0 where
+  pub answered : told answer ≡ flatAnswer flat
+
+-- start_flat: its answer, and the state afterwards. `startFlat` says both for anything at all.
+pub record FlatTableStarted (flat state : List ℕ) (answer : Verdict) (after : List ℕ) : Type 0 where
+  pub answered : startTold answer after ≡ startFlat flat state
+
+-- run_flat: its answer with the counts, and every lent word afterwards. `runFlat` says all of it for anything at all.
+pub record FlatTableRan (flat state : List ℕ) (event : ℕ) (outputs : List ℕ) (answer : FlatRun) (state-after outputs-after : List ℕ) : Type 0 where
+  pub answered : flatRanTold answer state-after outputs-after ≡ runFlat flat state event outputs

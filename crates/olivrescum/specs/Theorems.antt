@@ -9,7 +9,11 @@ use Rattle.chart_rules.specs.Rules.{ChartRules}
 use Rattle.chart_check.specs.Answer.{chartRules, chartAnswer}
 use Rattle.engine.specs.declared.ChartRun.{ChartRun}
 use Rattle.chart_check.specs.RuleByRule.{RulesNumbered}
-use Rattle.olivrescum.specs.Promises.{ChartChecked, ChartStarted, ChartRan}
+use Rattle.flat_rules.specs.Rules.{FlatRules}
+use Rattle.flat_check.specs.Answer.{flatRules, flatAnswer}
+use Rattle.flat_check.specs.RuleByRule.{RulesNumbered as FlatRulesNumbered}
+use Rattle.flat_engine.specs.declared.FlatRun.{FlatRun}
+use Rattle.olivrescum.specs.Promises.{ChartChecked, ChartStarted, ChartRan, FlatTableChecked, FlatTableStarted, FlatTableRan}
 
 -- Demand 2: "A chart table is accepted exactly when it keeps 01's rules."
 abbrev pub AcceptedExactly : Type 0
@@ -41,4 +45,32 @@ abbrev pub RunDeterminate : Type 0
 RunDeterminate =
     (chart state : List ℕ) (event : ℕ) (outputs : List ℕ) (a b : ChartRun) (state-a state-b outputs-a outputs-b : List ℕ)
     → ChartRan chart state event outputs a state-a outputs-a → ChartRan chart state event outputs b state-b outputs-b
+    → (a ≡ b) × (state-a ≡ state-b) × (outputs-a ≡ outputs-b)
+
+-- ---- the same of flat tables
+abbrev pub FlatAcceptedExactly : Type 0
+FlatAcceptedExactly = (flat : List ℕ) → Iff (flatAnswer flat ≡ (0, 0)) (FlatRules flat)
+
+abbrev pub FlatRefusedAtLowest : Type 0
+FlatRefusedAtLowest = (flat : List ℕ) → Judged 11 (flatRules flat) (flatAnswer flat)
+
+-- 01, What a call can say, rows 11 to 18: "shorter than its header, wrong form, total not the slice's length", "a header count
+-- out of range" and "an offset or the total off the layout", at place 0; "initial state not of that machine, or no such
+-- machine", at the "machine, or machines + state"; "a guard's span", at the guard; "a literal", at the "first guard holding a
+-- bad one"; "an item", at the item; "any field of a rule", at the rule.
+abbrev pub FlatRuleByRule : Type 0
+FlatRuleByRule = (flat : List ℕ) → FlatRulesNumbered flat
+
+abbrev pub FlatCheckDeterminate : Type 0
+FlatCheckDeterminate = (flat : List ℕ) (a b : Verdict) → FlatTableChecked flat a → FlatTableChecked flat b → a ≡ b
+
+abbrev pub FlatStartDeterminate : Type 0
+FlatStartDeterminate =
+    (flat state : List ℕ) (a b : Verdict) (after-a after-b : List ℕ)
+    → FlatTableStarted flat state a after-a → FlatTableStarted flat state b after-b → (a ≡ b) × (after-a ≡ after-b)
+
+abbrev pub FlatRunDeterminate : Type 0
+FlatRunDeterminate =
+    (flat state : List ℕ) (event : ℕ) (outputs : List ℕ) (a b : FlatRun) (state-a state-b outputs-a outputs-b : List ℕ)
+    → FlatTableRan flat state event outputs a state-a outputs-a → FlatTableRan flat state event outputs b state-b outputs-b
     → (a ≡ b) × (state-a ≡ state-b) × (outputs-a ≡ outputs-b)

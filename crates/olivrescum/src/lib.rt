@@ -3,7 +3,9 @@
 mod theorems;
 
 ghost use Rattle.olivrescum.specs.Promises.{ChartChecked, ChartStarted, ChartRan};
+ghost use Rattle.olivrescum.specs.Promises.{FlatTableChecked, FlatTableStarted, FlatTableRan};
 use engine::ChartRun;
+use flat_engine::FlatRun;
 use table::Verdict;
 
 // Is this a chart table?
@@ -26,4 +28,26 @@ pub fn run_chart(chart: &[u16], state: &mut [u16], event: u32, outputs: &mut [u1
     ensures { λ r. ⌜ ChartRan (now (chart .entry)) (now (state .entry)) event (now (outputs .entry)) r (now (state .exit)) (now (outputs .exit)) ⌝ }
 {
     engine::run(chart, state, event, outputs)
+}
+
+// Is this a flat table?
+pub fn check_flat(flat: &[u16]) -> Verdict
+    ensures { λ r. ⌜ FlatTableChecked (now (flat .entry)) r ⌝ }
+{
+    flat_check::check(flat)
+}
+
+// Writes the start state of a flat table into `state`.
+pub fn start_flat(flat: &[u16], state: &mut [u16]) -> Verdict
+    ensures { λ r. ⌜ FlatTableStarted (now (flat .entry)) (now (state .entry)) r (now (state .exit)) ⌝ }
+{
+    flat_engine::start(flat, state)
+}
+
+// Runs one event on a flat table to the end of its macrostep. `state` becomes the state after it; `outputs` gets two words for
+// each output: number and value.
+pub fn run_flat(flat: &[u16], state: &mut [u16], event: u32, outputs: &mut [u16]) -> FlatRun
+    ensures { λ r. ⌜ FlatTableRan (now (flat .entry)) (now (state .entry)) event (now (outputs .entry)) r (now (state .exit)) (now (outputs .exit)) ⌝ }
+{
+    flat_engine::run(flat, state, event, outputs)
 }

@@ -6,6 +6,8 @@ ghost use lib.ListN.{set};
 ghost use Rattle.io.specs.Counts.{Counts};
 ghost use Rattle.table.specs.Answers.{refusalTold, told};
 use engine::ChartRun;
+use flat_engine::FlatCounts;
+use flat_engine::FlatRun;
 use libc::STDIN_FILENO;
 use libc::STDOUT_FILENO;
 use table::Refusal;
@@ -88,6 +90,26 @@ pub fn counts_of(run: ChartRun) -> engine::Counts {
             taken: 0,
             left: 0,
             entered: 0,
+            outputs: 0,
+        },
+    }
+}
+
+// What a run of a flat table says, without its counts.
+pub fn flat_verdict_of(run: FlatRun) -> Verdict {
+    match run {
+        FlatRun::Done(_) => Verdict::Done,
+        FlatRun::Refused(refusal) => Verdict::Refused(refusal),
+    }
+}
+
+// Its counts: those of a refusal are 0.
+pub fn flat_counts_of(run: FlatRun) -> FlatCounts {
+    match run {
+        FlatRun::Done(counts) => counts,
+        FlatRun::Refused(_) => FlatCounts {
+            microsteps: 0,
+            fired: 0,
             outputs: 0,
         },
     }

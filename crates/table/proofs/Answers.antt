@@ -1,8 +1,11 @@
--- An answer is determined by its number and place. Assumes nothing.
+-- An answer is determined by its number and place, and 0 is no refusal's number. Assumes nothing.
 use Prim.Native.Nat.{ℕ}
 use mathlib.Core.Path.{_≡_, refl, sym, ap, _∙_}
+use mathlib.Core.Bool.{Bool, true, false}
 use mathlib.Core.List.{List, [], _∷_}
 use lib.ListN.{getD}
+use lib.Dec.{eqb}
+use Rattle.words.proofs.Tests.{by-bool, clash, eqb-eq}
 use Rattle.table.specs.Answers.{refusalTold, told}
 use Rattle.table.specs.declared.Refusal.{Refusal}
 use Rattle.table.specs.declared.Refusal.the-variants.{ChartForm, ChartCount, ChartLayout, ChartTree, ChartSpan, ChartLiteral, ChartItem, ChartSource, ChartTargets, FlatForm, FlatCount, FlatLayout, FlatMachine, FlatSpan, FlatLiteral, FlatItem, FlatRule, NoEvent, Signals, Outputs, Microsteps, State, Room}
@@ -53,3 +56,15 @@ read-told (Refused r) = go r
 
 pub told-once : (v u : Verdict) → told v ≡ told u → v ≡ u
 told-once v u e = sym (read-told v) ∙ ap read e ∙ read-told u
+
+done? : Verdict → Bool
+done? Done = true
+done? (Refused r) = false
+
+pub refusal-not-0 : (r : Refusal) → eqb (refusalTold r .0) 0 ≡ false
+unfolding read answers done?
+refusal-not-0 r =
+    by-bool (eqb (refusalTold r .0) 0)
+    (λ e. let z : refusalTold r .0 ≡ 0 = eqb-eq (refusalTold r .0) 0 e in
+    clash (done? (read (refusalTold r))) (rw z refl) (ap done? (read-told (Refused r))))
+    (λ e. e)

@@ -1,10 +1,14 @@
--- Sections without gaps: where one ends, the next begins.
-use Prim.Native.Nat.{ℕ, _+_, _*_}
+-- Headers: counts in their ranges, and sections without gaps: where one ends, the next begins.
+use Prim.Native.Nat.{ℕ, _+_, _*_, _≤_}
 use mathlib.Core.Path.{_≡_}
 use mathlib.Core.Bool.{Bool}
 use mathlib.Core.List.{List}
 use lib.ListN.{getD}
 use lib.Dec.{eqb}
+
+-- A count is in its range.
+abbrev pub Between : ℕ → ℕ → ℕ → Type 0
+Between low high x = (low ≤ x) × (x ≤ high)
 
 -- The section at offset word `next` begins where the one at offset word `here` ends, which has as many records of `size`
 -- words as word `count` says.

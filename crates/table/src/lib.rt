@@ -237,3 +237,21 @@ pub fn chart_refusal(rule: usize, place: usize) -> Refusal
         _ => Refusal::ChartTargets(at),
     }
 }
+
+// The refusal of a flat table that breaks rule `rule` at `place`. The first three rules are of the table as a whole.
+pub fn flat_refusal(rule: usize, place: usize) -> Refusal
+    requires { ⌜ (10 < rule) × (rule < 19) × (place < 1000000) × (rule < 14 → place ≡ 0) ⌝ }
+    ensures { λ r. ⌜ refusalTold r ≡ (rule, place) ⌝ }
+{
+    let at = place as u32;
+    match rule {
+        11 => Refusal::FlatForm,
+        12 => Refusal::FlatCount,
+        13 => Refusal::FlatLayout,
+        14 => Refusal::FlatMachine(at),
+        15 => Refusal::FlatSpan(at),
+        16 => Refusal::FlatLiteral(at),
+        17 => Refusal::FlatItem(at),
+        _ => Refusal::FlatRule(at),
+    }
+}

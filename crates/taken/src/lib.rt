@@ -65,7 +65,7 @@ pub fn is_scoped(t: &[u16], k: usize) -> bool
 }
 
 // Whether the scopes of two transitions are related.
-fn are_related(t: &[u16], s: usize, k: usize) -> bool
+pub fn are_related(t: &[u16], s: usize, k: usize) -> bool
     requires { ⌜ ChartRules (now t) × (s < view (now t) .transitions) × (k < view (now t) .transitions) ⌝ }
     ensures { λ r. ⌜ r ≡ related (view (now (t .entry))) s k ⌝ }
 {

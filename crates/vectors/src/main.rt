@@ -4,6 +4,7 @@
 ghost use mathlib.Core.Path.{_≡_};
 ghost use Prim.Native.Nat.{_+_, _*_, _<_, _%_};
 use shell::Text;
+use table::Verdict;
 
 // What the first six words of a case say. `number` is the event, or how many events follow a flattening; `room` counts
 // the words that are lent for outputs or for a flat table.
@@ -33,12 +34,16 @@ fn case_of(head: &[u16; 6]) -> Case {
     }
 }
 
-// Call 1: check a chart. Prints call, answer and place.
-fn check_chart(chart: &[u16], text: &mut Text, at: usize) -> usize {
-    let verdict = olivrescum::check_chart(chart);
-    let at = shell::put_number(text, at, 1);
+// Puts the call's number, and the number and place of its answer.
+fn put_answer(text: &mut Text, at: usize, call: u32, verdict: Verdict) -> usize {
+    let at = shell::put_number(text, at, call);
     let at = shell::put_field(text, at, shell::number_of(verdict));
-    let at = shell::put_field(text, at, shell::place_of(verdict));
+    shell::put_field(text, at, shell::place_of(verdict))
+}
+
+// Calls 1 and 4: check a chart or a flat table. Prints call, answer and place.
+fn put_check(text: &mut Text, at: usize, call: u32, verdict: Verdict) -> usize {
+    let at = put_answer(text, at, call, verdict);
     shell::put_newline(text, at)
 }
 
@@ -64,14 +69,21 @@ fn next_sum(sum: u32, word: u16) -> u32
     (sum * 31 + word as u32) % 65521
 }
 
-// Call 2: start a chart. Prints call, answer, place and the state's checksum.
-fn start_chart(chart: &[u16], state: &mut [u16], text: &mut Text, at: usize) -> usize {
-    let verdict = olivrescum::start_chart(chart, state);
-    let at = shell::put_number(text, at, 2);
-    let at = shell::put_field(text, at, shell::number_of(verdict));
-    let at = shell::put_field(text, at, shell::place_of(verdict));
+// Calls 2 and 5: start a chart or a flat table. Prints call, answer, place and the state's checksum.
+fn put_start(text: &mut Text, at: usize, call: u32, verdict: Verdict, state: &[u16]) -> usize {
+    let at = put_answer(text, at, call, verdict);
     let at = shell::put_field(text, at, checksum(state));
     shell::put_newline(text, at)
+}
+
+fn start_chart(chart: &[u16], state: &mut [u16], text: &mut Text, at: usize) -> usize {
+    let verdict = olivrescum::start_chart(chart, state);
+    put_start(text, at, 2, verdict, state)
+}
+
+fn start_flat(flat: &[u16], state: &mut [u16], text: &mut Text, at: usize) -> usize {
+    let verdict = olivrescum::start_flat(flat, state);
+    put_start(text, at, 5, verdict, state)
 }
 
 // Call 3: run one event on a chart. Prints call, answer, place, the counts, and the checksums of state and outputs.
@@ -92,19 +104,51 @@ fn run_chart_in(
 ) -> usize {
     let run = olivrescum::run_chart(chart, state, event, outputs);
     let at = put_run(text, at, run);
+    put_words(text, at, state, outputs)
+}
+
+// Puts what a run of a chart says: call, answer, place and the counts.
+fn put_run(text: &mut Text, at: usize, run: engine::ChartRun) -> usize {
+    let counts = shell::counts_of(run);
+    let at = put_answer(text, at, 3, shell::verdict_of(run));
+    let at = shell::put_counts(text, at, counts);
+    shell::put_field(text, at, counts.outputs)
+}
+
+// Puts the checksums of state and outputs, and ends the line.
+fn put_words(text: &mut Text, at: usize, state: &[u16], outputs: &[u16]) -> usize {
     let at = shell::put_field(text, at, checksum(state));
     let at = shell::put_field(text, at, checksum(outputs));
     shell::put_newline(text, at)
 }
 
-// Puts what a run of a chart says: call, answer, place and the counts.
-fn put_run(text: &mut Text, at: usize, run: engine::ChartRun) -> usize {
-    let verdict = shell::verdict_of(run);
-    let counts = shell::counts_of(run);
-    let at = shell::put_number(text, at, 3);
-    let at = shell::put_field(text, at, shell::number_of(verdict));
-    let at = shell::put_field(text, at, shell::place_of(verdict));
-    let at = shell::put_counts(text, at, counts);
+// Call 6: run one event on a flat table. Prints call, answer, place, the counts, and the checksums of state and outputs.
+fn run_flat(case: Case, flat: &[u16], state: &mut [u16], text: &mut Text, at: usize) -> usize {
+    let mut room = [42405u16; 600];
+    let words = shell::lent(case.room, &room);
+    run_flat_in(&mut room[..words], case.number, flat, state, text, at)
+}
+
+// The same in the words that are lent for outputs.
+fn run_flat_in(
+    outputs: &mut [u16],
+    event: u32,
+    flat: &[u16],
+    state: &mut [u16],
+    text: &mut Text,
+    at: usize,
+) -> usize {
+    let run = olivrescum::run_flat(flat, state, event, outputs);
+    let at = put_flat_run(text, at, run);
+    put_words(text, at, state, outputs)
+}
+
+// Puts what a run of a flat table says: call, answer, place and the counts.
+fn put_flat_run(text: &mut Text, at: usize, run: flat_engine::FlatRun) -> usize {
+    let counts = shell::flat_counts_of(run);
+    let at = put_answer(text, at, 6, shell::flat_verdict_of(run));
+    let at = shell::put_field(text, at, counts.microsteps);
+    let at = shell::put_field(text, at, counts.fired);
     shell::put_field(text, at, counts.outputs)
 }
 
@@ -120,9 +164,18 @@ fn run_case(case: Case, table: &mut [u16], text: &mut Text, at: usize) -> usize 
     let state_words = shell::read_words(&mut state, 0, case.state_words);
     let call = case.call;
     match call {
-        1 => check_chart(&table[..table_words], text, at),
+        1 => put_check(text, at, 1, olivrescum::check_chart(&table[..table_words])),
         2 => start_chart(&table[..table_words], &mut state[..state_words], text, at),
         3 => run_chart(
+            case,
+            &table[..table_words],
+            &mut state[..state_words],
+            text,
+            at,
+        ),
+        4 => put_check(text, at, 4, olivrescum::check_flat(&table[..table_words])),
+        5 => start_flat(&table[..table_words], &mut state[..state_words], text, at),
+        6 => run_flat(
             case,
             &table[..table_words],
             &mut state[..state_words],

@@ -10,6 +10,8 @@ use Rattle.words.proofs.Loops.{rank-most, rank-next}
 use Rattle.chart.specs.View.{view}
 use Rattle.meaning.specs.Active.{isOr}
 use Rattle.meaning.specs.State.{orStates}
+use Rattle.meaning.proofs.Tree.{tree}
+use Rattle.meaning.proofs.Half.{ors-half}
 use Rattle.active.proofs.Ranks.{RanksBelow, ranks-next}
 use Rattle.active.proofs.or_ranks.Statement.{statement}
 use Rattle.active.proofs.or_ranks.Tie as tie
@@ -55,9 +57,9 @@ returns c =
     let n = c .before .before .before .number .ensures .0 in
     let e : l .k ≡ v .states = omega arith in
     let few = start .pre .0 .counts .states .1 in
-    let most = rank-most (isOr v) (l .k) in
-    let r = c .wide .ensures .0 in
-    (r ∙ l .inv .2 ∙ ap (rank (isOr v)) e, (omega arith, λ k h. l .inv .3 k (omega arith)))
+    let half = ors-half (tree (start .pre .0)) in
+    let is = c .wide .ensures .0 ∙ l .inv .2 ∙ ap (rank (isOr v)) e in
+    (is, (omega arith, λ k h. l .inv .3 k (omega arith)))
 
 pub or-ranks-spec : {M : Type 1} → statement M
 or-ranks-spec =

@@ -17,8 +17,8 @@ returns c =
     let check = c .before .before .before in
     let s = check .before .before .before .before .args in
     let known = c .before .verdict .given in
-    run-refused (now (s .t)) (check .check .result) (check .check .ensures) (known .0 .0) (known .1) (now (s .state)) (s .event)
-    (now (s .outputs))
+    run-refused (now (s .t)) (check .check .result) (check .check .ensures) (now (s .state)) (s .event) (now (s .outputs))
+    (known .0 .0) (known .1)
 
 returns-2 : tie.Need-returns-2
 returns-2 c =
@@ -27,8 +27,8 @@ returns-2 c =
     let check = told .before .before in
     let s = check .before .before .before .before .args in
     ran .run-accepted .ensures
-    ∙ sym (run-accepted (now (s .t)) (check .check .result) (check .check .ensures) (told .enum-told .given .1) (now (s .state)) (s .event)
-    (now (s .outputs)))
+    ∙ sym (run-accepted (now (s .t)) (check .check .result) (check .check .ensures) (now (s .state)) (s .event)
+    (now (s .outputs)) (told .enum-told .given .1))
 
 pub run-spec : {M : Type 1} → statement M
 run-spec =

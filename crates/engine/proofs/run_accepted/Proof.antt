@@ -7,92 +7,84 @@ use native.Mathlib.Omega.{arith}
 use denote.Ref.{now}
 use lib.Seq.{length-take-le}
 use Rattle.chart.specs.View.{view}
-use Rattle.meaning.specs.State.{zeros}
+use Rattle.effects.specs.Lent.{zeros}
+use Rattle.meaning.specs.State.{stateLength}
 use Rattle.engine.proofs.Answers.{long-state, no-state, no-event, good-call}
 use Rattle.engine.proofs.run_accepted.Statement.{statement}
 use Rattle.engine.proofs.run_accepted.Tie as tie
 
+is-state-requires : tie.Need-is-state-requires
+is-state-requires c κs =
+    let ranks = c .before .before .before .or-ranks .ensures in
+    (c .before .before .before .before .before .before .before .before .pre, ranks .1 .1, ranks .0, omega (arith, ranks .1 .0))
+
 returns : tie.Need-returns
 returns c =
-    let start = c .before .before .before .before .before .before .before .before .before .before in
-    let s = start .args in
-    let v = view (now (s .t)) in
+    let s = c .before .before .before .before .before .before .before .before .before .before .args in
     let good = c .before .is-state in
-    no-state v (now (s .state)) (s .event) (now (s .outputs)) (sym (good .ensures) ∙ not-true (good .result) (c .if1 .taken))
+    no-state (view (now (s .t))) (now (s .state)) (s .event) (now (s .outputs)) (sym (good .ensures) ∙ not-true (good .result) (c .if1 .taken))
 
 returns-2 : tie.Need-returns-2
 returns-2 c =
-    let left = c .before .before .before in
-    let good = left .before in
-    let start = good .before .before .before .before .before .before .before .before .before in
-    let s = start .args in
-    let is = good .is-state in
+    let s = c .before .before .before .before .before .before .before .before .before .before .before .before .before .args in
+    let good = c .before .before .before .before .is-state in
     no-event (view (now (s .t))) (now (s .state)) (s .event) (now (s .outputs))
-    (sym (is .ensures) ∙ not-false (is .result) (left .if1 .left))
+    (sym (good .ensures) ∙ not-false (good .result) (c .before .before .before .if1 .left))
     (omega (arith, c .if2 .taken, c .before .before .number .ensures .0, c .before .wide .ensures .0))
 
 slice-aggregate-run-state-2 : tie.Need-slice-aggregate-run-state-2
 slice-aggregate-run-state-2 c =
     let ranks = c .before .before .before .before .before .before .before .before .before .before .before .before .before .or-ranks in
-    sym (length-take-le (ranks .result) (zeros 48) (ranks .ensures .1 .0))
+    sym (length-take-le (ranks .result) (zeros 24) (ranks .ensures .1 .0))
 
 slice-aggregate-run-state-3 : tie.Need-slice-aggregate-run-state-3
 slice-aggregate-run-state-3 c =
     let ranks = c .before .before .before .before .before .before .before .before .before .before .before .before .before .before .or-ranks in
-    sym (length-take-le (ranks .result) (zeros 48) (ranks .ensures .1 .0))
+    sym (length-take-le (ranks .result) (zeros 24) (ranks .ensures .1 .0))
 
 slice-aggregate-run-state-4 : tie.Need-slice-aggregate-run-state-4
 slice-aggregate-run-state-4 c =
-    let start = c .before .before .before .before .before .before .before .before .before .before .before .before .before .before .before .before .before .before .before .before in
     let n = c .before .before .before .before .before .before .number2 in
-    sym (length-take-le (n .result) (zeros 16) (omega (arith, n .ensures .0, start .pre .counts .variables .1)))
+    sym (length-take-le (n .result) (zeros 16) (omega (arith, n .ensures .0, c .before .before .before .before .before .before .before .before .before .before .before .before .before .before .before .before .before .before .before .before .pre .counts .variables .1)))
 
 run-state-requires : tie.Need-run-state-requires
+unfolding stateLength
 run-state-requires c κs =
-    let number = c .before .before .before .before .before .before .before .before in
-    let left = number .before .before .before .before in
-    let good = left .before in
-    let or-ranks = good .before .before .before .before in
-    let start = or-ranks .before .before .before .before .before in
+    let start = c .before .before .before .before .before .before .before .before .before .before .before .before .before .before .before .before .before .before .before .before .before in
     let s = start .args in
-    let is = good .is-state in
-    let ranks = or-ranks .or-ranks in
-    let n = number .number2 in
+    let good = c .before .before .before .before .before .before .before .before .before .before .before .before .is-state in
+    let ranks = c .before .before .before .before .before .before .before .before .before .before .before .before .before .before .before .before .or-ranks in
+    let n = c .before .before .before .before .before .before .before .number2 in
     let few = ranks .ensures .1 .0 in
-    let words = length-take-le (ranks .result) (zeros 48) few ∙ ranks .ensures .0 in
-    let long = length-take-le (n .result) (zeros 16) (omega (arith, n .ensures .0, start .pre .counts .variables .1)) in (
+    let words = length-take-le (ranks .result) (zeros 24) few in
+    let vars = length-take-le (n .result) (zeros 16) (omega (arith, n .ensures .0, start .pre .counts .variables .1)) in
+    let long = long-state (view (now (s .t))) (now (s .state)) (sym (good .ensures) ∙ not-false (good .result) (c .before .before .before .before .before .before .before .before .before .before .before .if1 .left)) in (
       start .pre,
       ranks .ensures .1 .1,
+      words ∙ ranks .ensures .0,
       record {
-        few = omega (arith, few, ranks .ensures .0);
-        state-long = long-state (view (now (s .t))) (now (s .state)) (sym (is .ensures) ∙ not-false (is .result) (left .if1 .left));
-        current-long = words;
-        next-long = words;
-        vars-long = long ∙ n .ensures .0;
+        few = omega (arith, few, words);
+        next-long = refl;
+        state-long = omega (arith, long, words, vars, ranks .ensures .0, n .ensures .0);
+        queue-long = refl;
       },
-      refl,
     )
 
 returns-3 : tie.Need-returns-3
 returns-3 c =
-    let ran = c .before .before .before .before .before .before .before .before .before in
-    let left2 = ran .before .before .before .before .before .before .before .before .before .before in
-    let left = left2 .before .before .before in
-    let good = left .before in
-    let start = good .before .before .before .before .before .before .before .before .before in
-    let s = start .args in
-    let is = good .is-state in
-    ran .run-state .ensures
+    let s = c .before .before .before .before .before .before .before .before .before .before .before .before .before .before .before .before .before .before .before .before .before .before .before .before .before .before .before .before .before .before .before .args in
+    let good = c .before .before .before .before .before .before .before .before .before .before .before .before .before .before .before .before .before .before .before .before .before .before .is-state in
+    c .before .before .before .before .before .before .before .before .before .run-state .ensures
     ∙ sym (good-call (view (now (s .t))) (now (s .state)) (s .event) (now (s .outputs))
-    (sym (is .ensures) ∙ not-false (is .result) (left .if1 .left))
-    (omega (arith, left2 .if2 .left, left2 .before .wide .ensures .0, left2 .before .before .number .ensures .0)))
+    (sym (good .ensures) ∙ not-false (good .result) (c .before .before .before .before .before .before .before .before .before .before .before .before .before .before .before .before .before .before .before .before .before .if1 .left))
+    (omega (arith, c .before .before .before .before .before .before .before .before .before .before .before .before .before .before .before .before .before .before .if2 .left, c .before .before .before .before .before .before .before .before .before .before .before .before .before .before .before .before .before .before .before .wide .ensures .0, c .before .before .before .before .before .before .before .before .before .before .before .before .before .before .before .before .before .before .before .before .number .ensures .0)))
 
 pub run-accepted-spec : {M : Type 1} → statement M
 run-accepted-spec =
     tie.close
     (tie.spec
-    (λ c. search needs) (λ c κs. search needs) (λ c. search needs) (λ c κs. search needs) (λ c. search needs)
+    (λ c. search needs) (λ c κs. search needs) (λ c. search needs) is-state-requires (λ c. search needs)
     returns (λ c κs. search needs) (λ c κs. search needs) (λ c. search needs) returns-2 (λ c κs. search needs)
     (λ c. search needs) (λ c. search needs) slice-aggregate-run-state-2 (λ c. search needs)
     slice-aggregate-run-state-3 (λ c. search needs) slice-aggregate-run-state-4 (λ c. search needs)
-    (λ c. search needs) run-state-requires (λ c. search needs) (λ c. search needs) returns-3)
+    run-state-requires (λ c. search needs) (λ c. search needs) returns-3)

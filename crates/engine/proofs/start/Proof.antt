@@ -17,7 +17,7 @@ returns c =
     let check = c .before .before .before in
     let s = check .before .before .before .args in
     let known = c .before .verdict .given in
-    start-refused (now (s .t)) (check .check .result) (check .check .ensures) (known .0 .0) (known .1) (now (s .state))
+    start-refused (now (s .t)) (check .check .result) (check .check .ensures) (now (s .state)) (known .0 .0) (known .1)
 
 returns-2 : tie.Need-returns-2
 returns-2 c =
@@ -27,7 +27,7 @@ returns-2 c =
     let s = check .before .before .before .args in
     let known = told .enum-told .given .1 in
     started .start-accepted .ensures
-    ∙ sym (start-accepted (now (s .t)) (check .check .result) (check .check .ensures) known (now (s .state)))
+    ∙ sym (start-accepted (now (s .t)) (check .check .result) (check .check .ensures) (now (s .state)) known)
 
 pub start-spec : {M : Type 1} → statement M
 start-spec =

@@ -13,9 +13,9 @@ use Rattle.words.proofs.Ranks.{rank-length}
 use Rattle.table.specs.declared.Verdict.the-variants.{Done}
 use Rattle.chart.specs.View.{Chart, view}
 use Rattle.meaning.specs.Active.{isOr}
-use Rattle.meaning.specs.State.{orStates, stateLength, zeros, startWords, startState}
+use Rattle.effects.specs.Lent.{zeros, startTold}
+use Rattle.meaning.specs.State.{orStates, stateLength, startWords, startState}
 use Rattle.meaning.specs.Calls.{startedOn}
-use Rattle.engine.specs.Told.{startTold}
 use Rattle.engine.proofs.start_accepted.Statement.{statement}
 use Rattle.engine.proofs.start_accepted.Tie as tie
 

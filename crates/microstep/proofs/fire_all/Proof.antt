@@ -13,7 +13,7 @@ use Rattle.effects.specs.Work.{going, doSteps}
 use Rattle.chart.specs.View.{Chart, view}
 use Rattle.states.specs.Cells.{cells}
 use Rattle.meaning.specs.Steps.{fires}
-use Rattle.moves.proofs.Steps.{rises}
+use Rattle.effects.proofs.Going.{rises}
 use Rattle.microstep.proofs.fire_all.Statement.{statement}
 use Rattle.microstep.proofs.fire_all.Tie as tie
 

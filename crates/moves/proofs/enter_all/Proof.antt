@@ -14,7 +14,7 @@ use Rattle.chart.specs.View.{Chart, view}
 use Rattle.states.specs.Cells.{cells}
 use Rattle.meaning.specs.Steps.{enterStep}
 use Rattle.moves.specs.Below.{entersAll}
-use Rattle.moves.proofs.Steps.{rises}
+use Rattle.effects.proofs.Going.{rises}
 use Rattle.moves.proofs.enter_all.Statement.{statement}
 use Rattle.moves.proofs.enter_all.Tie as tie
 

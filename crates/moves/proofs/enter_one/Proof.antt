@@ -7,8 +7,9 @@ use denote.Ref.{now}
 use Rattle.table.specs.Span.{spanAt}
 use Rattle.effects.specs.Work.{doSteps}
 use Rattle.chart.specs.View.{view}
-use Rattle.meaning.specs.Steps.{itemsOf, enterStep}
-use Rattle.moves.proofs.Steps.{one-step}
+use Rattle.meaning.specs.Steps.{enterStep}
+use Rattle.effects.proofs.Going.{one-step}
+use Rattle.moves.proofs.Steps.{span-does}
 use borrow.Author.Needs.{needs}
 use Rattle.moves.proofs.enter_one.Statement.{statement}
 use Rattle.moves.proofs.enter_one.Tie as tie
@@ -30,7 +31,7 @@ returns-2 c =
     let rank = c .before .before .before .before .before .before .before .before .before .before .before .before .before .before .before .number .ensures .0 ∙ ap (λ (k : ℕ). getD (now (s .ranks)) k 0) up ∙ c .before .before .before .before .before .before .before .before .before .before .before .before .before .before .before .before .before .before .before .before .before .before .before .before .before .before .pre .1 _ (c .before .before .before .before .before .before .before .before .before .before .before .before .before .before .before .before .before .before .before .before .before .before .before .before .before .before .pre .2 is) in
     rw is
     (one-step (s .room) (enterStep v (s .j)) (s .n) _ _ _ (now (s .next)) _ _ _ _ _ _ _
-    (c .before .before .before .before .before .before .before .count-enter .ensures) (ap (itemsOf v) at) (c .before .before .before .before .before .before .before .before .before .before .before .before .before .before .put .ensures ∙ ap (λ (i : ℕ). set (now (s .next)) i (s .j)) rank) (c .before .before .before .before .before .before .run-span .ensures))
+    (c .before .before .before .before .before .before .before .count-enter .ensures) (span-does (now (s .t)) _ _ at) (c .before .before .before .before .before .before .before .before .before .before .before .before .before .before .put .ensures ∙ ap (λ (i : ℕ). set (now (s .next)) i (s .j)) rank) (c .before .before .before .before .before .before .run-span .ensures))
 
 pub enter-one-spec : {M : Type 1} → statement M
 enter-one-spec =

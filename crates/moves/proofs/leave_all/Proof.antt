@@ -14,7 +14,7 @@ use Rattle.chart.specs.View.{Chart, view}
 use Rattle.states.specs.Cells.{cells}
 use Rattle.meaning.specs.Steps.{leaveStep}
 use Rattle.moves.specs.Below.{leftBelow, leavesBelow}
-use Rattle.moves.proofs.Steps.{falls}
+use Rattle.effects.proofs.Going.{falls}
 use Rattle.moves.proofs.leave_all.Statement.{statement}
 use Rattle.moves.proofs.leave_all.Tie as tie
 

@@ -6,8 +6,9 @@ use denote.Ref.{now}
 use Rattle.table.specs.Span.{spanAt}
 use Rattle.effects.specs.Work.{doSteps}
 use Rattle.chart.specs.View.{view}
-use Rattle.meaning.specs.Steps.{itemsOf, leaveStep}
-use Rattle.moves.proofs.Steps.{one-step}
+use Rattle.meaning.specs.Steps.{leaveStep}
+use Rattle.effects.proofs.Going.{one-step}
+use Rattle.moves.proofs.Steps.{span-does}
 use borrow.Author.Needs.{needs}
 use Rattle.moves.proofs.leave_one.Statement.{statement}
 use Rattle.moves.proofs.leave_one.Tie as tie
@@ -26,7 +27,7 @@ returns-2 c =
     let left = c .before .before .before .before .before .before .before .before .before .before .before .before .before .is-left in
     λ next. rw (sym (left .ensures) ∙ not-false (left .result) (c .before .before .before .before .before .before .before .before .before .before .before .before .if1 .left))
     (one-step (s .room) (leaveStep v (s .j)) (s .n) _ _ _ next next _ _ _ _ _ _
-    (c .before .before .before .before .before .before .before .count-leave .ensures) (ap (itemsOf v) at) refl (c .before .before .before .before .before .before .run-span .ensures))
+    (c .before .before .before .before .before .before .before .count-leave .ensures) (span-does (now (s .t)) _ _ at) refl (c .before .before .before .before .before .before .run-span .ensures))
 
 pub leave-one-spec : {M : Type 1} → statement M
 leave-one-spec =

@@ -4,8 +4,9 @@ use mathlib.Core.Path.{_≡_, refl, ap}
 use denote.Ref.{now}
 use Rattle.table.specs.Span.{spanAt}
 use Rattle.chart.specs.View.{view}
-use Rattle.meaning.specs.Steps.{itemsOf, takeStep}
-use Rattle.moves.proofs.Steps.{one-step}
+use Rattle.meaning.specs.Steps.{takeStep}
+use Rattle.effects.proofs.Going.{one-step}
+use Rattle.moves.proofs.Steps.{span-does}
 use borrow.Author.Needs.{needs}
 use Rattle.moves.proofs.take_own.Statement.{statement}
 use Rattle.moves.proofs.take_own.Tie as tie
@@ -18,7 +19,7 @@ returns c =
     let at : spanAt (now (s .t)) (c .before .before .before .before .before .before .before .before .before .before .before .transition-at .result + 4) ≡ v .does (s .k) = cc in
     λ next.
     one-step (s .room) (takeStep v (s .k)) (s .n) _ _ _ next next _ _ _ _ _ _
-    (c .before .before .before .before .before .before .before .count-take .ensures) (ap (itemsOf v) at) refl (c .before .before .before .before .before .before .run-span .ensures)
+    (c .before .before .before .before .before .before .before .count-take .ensures) (span-does (now (s .t)) _ _ at) refl (c .before .before .before .before .before .before .run-span .ensures)
 
 pub take-own-spec : {M : Type 1} → statement M
 take-own-spec =

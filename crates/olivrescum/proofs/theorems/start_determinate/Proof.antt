@@ -1,8 +1,7 @@
 -- An answer is determined by its number and place. Assumes nothing.
 use mathlib.Core.Path.{_≡_, sym, ap, _∙_}
 use Rattle.table.proofs.Answers.{told-once}
-use Rattle.meaning.specs.Calls.{Started}
-use Rattle.engine.specs.Told.{startTold}
+use Rattle.effects.specs.Lent.{Started, startTold}
 use Rattle.olivrescum.proofs.theorems.start_determinate.Statement.{statement}
 use Rattle.olivrescum.proofs.theorems.start_determinate.Tie as tie
 

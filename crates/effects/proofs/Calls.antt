@@ -1,0 +1,28 @@
+-- What the check's answer makes of a call: it goes on where the answer is done, and says the refusal where it is one. Assumes
+-- nothing.
+use Prim.Native.Nat.{ℕ}
+use mathlib.Core.Path.{_≡_, refl, sym, ap, _∙_}
+use mathlib.Core.Bool.{Bool, true, cond}
+use mathlib.Core.List.{List}
+use lib.Dec.{eqb}
+use Rattle.words.proofs.Tests.{clash}
+use Rattle.table.specs.Answers.{told, refusalTold}
+use Rattle.table.specs.declared.Refusal.{Refusal}
+use Rattle.table.specs.declared.Verdict.{Verdict}
+use Rattle.table.specs.declared.Verdict.the-variants.{Done, Refused}
+use Rattle.table.proofs.Answers.{refusal-not-0}
+
+module _ {A : Type 0} (a : ℕ × ℕ) (goes-on : A) (refused : ℕ × ℕ → A) (v : Verdict) (is : told v ≡ a) where
+  -- what a call gives, by the answer a of the check
+  abbrev given : A
+  given = cond (eqb (a .0) 0) goes-on (refused a)
+
+  pub call-accepted : v ≡ Done → given ≡ goes-on
+  call-accepted h = rw (sym is ∙ ap told h) refl
+
+  pub call-refused : (r : Refusal) → v ≡ Refused r → given ≡ refused (refusalTold r)
+  call-refused r h = rw (sym is ∙ ap told h, refusal-not-0 r) refl
+
+-- an answer that is done is none of a refusal
+pub done-not-refused : {X : Type 0} (r : Refusal) → (0, 0) ≡ refusalTold r → X
+done-not-refused r e = clash (eqb (refusalTold r .0) 0) (ap (λ (x : ℕ × ℕ). eqb (x .0) 0) (sym e)) (refusal-not-0 r)

@@ -1,0 +1,20 @@
+-- `effects::run_span` meets its contract: what it returns is what its callees say. Assumes nothing.
+use denote.Ref.{now}
+use Rattle.effects.proofs.Items.{span-items}
+use borrow.Author.Needs.{needs}
+use Rattle.effects.proofs.run_span.Statement.{statement}
+use Rattle.effects.proofs.run_span.Tie as tie
+
+returns : tie.Need-returns
+returns c =
+    let s = c .before .before .before .before .before .before .before .before .before .before .before .before .before .before .before .before .before .args in
+    rw (← span-items (now (s .t)) (s .base) (s .at) _ _ _ (c .before .before .before .before .before .before .before .before .before .before .before .before .number .ensures .0) (c .before .before .before .before .before .before .before .before .before .before .before .number2 .ensures .0) (c .before .before .before .before .before .before .before .before .before .before .number3 .ensures .0))
+    (c .before .before .before .before .before .before .run-items .ensures)
+
+pub run-span-spec : {M : Type 1} → statement M
+run-span-spec =
+    tie.close
+    (tie.spec
+    (λ c κs. search needs) (λ c κs. search needs) (λ c. search needs) (λ c. search needs) (λ c. search needs)
+    (λ c κs. search needs) (λ c κs. search needs) (λ c. search needs) (λ c. search needs) (λ c. search needs)
+    returns)

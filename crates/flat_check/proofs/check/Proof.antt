@@ -1,0 +1,76 @@
+-- `flat_check::check` meets its contract: the rules passed are kept, so the answer is that of those left. Assumes nothing.
+use borrow.Author.Needs.{needs}
+use Prim.Native.Nat.{ℕ, zero, suc, _+_, _-_, _<_, _≤_}
+use mathlib.Core.Path.{_≡_, refl, sym, ap, ap₂, _∙_}
+use mathlib.Core.List.{List}
+use native.Mathlib.Omega.{arith}
+use denote.Ref.{now}
+use lib.ListN.{drop}
+use Rattle.table.specs.Check.{ruleAt, answer}
+use Rattle.table.proofs.Check.{broken-here, kept-here}
+use Rattle.flat_check.specs.Answer.{flatRules, flatAnswer}
+use Rattle.flat_check.proofs.check.Statement.{statement}
+use Rattle.flat_check.proofs.check.Tie as tie
+
+-- the first three rules are of the table as a whole
+one-place : (t : List ℕ) (k : ℕ) → k < 3 → ruleAt (flatRules t) k .places ≡ 1
+one-place t zero h = refl
+one-place t (suc zero) h = refl
+one-place t (suc (suc zero)) h = refl
+one-place t (suc (suc (suc k))) h = absurd (omega arith)
+
+abbrev Inv-loop : tie.InvT-loop
+Inv-loop t k₀ k = (k ≤ 8) × (flatAnswer t ≡ answer (11 + k) (drop k (flatRules t)))
+
+abbrev μ-loop : tie.MeasureT-loop
+μ-loop t k₀ k = 8 - k
+
+loop-holds : tie.Need-loop-holds Inv-loop μ-loop
+unfolding flatAnswer
+loop-holds c = (omega arith, refl)
+
+lowest-bad-requires : tie.Need-lowest-bad-requires Inv-loop μ-loop
+lowest-bad-requires c κs = (c .before .loop-test .taken, search needs, c .places-of .ensures .0)
+
+flat-refusal-requires : tie.Need-flat-refusal-requires Inv-loop μ-loop
+flat-refusal-requires c κs =
+    let t = now (c .before .before .before .before .before .before .args .t) in
+    let k = c .before .before .before .before .loop .k in
+    let e = c .before .before .places-of .ensures .0 in
+    let small = c .before .before .places-of .ensures .1 in
+    (omega arith, omega arith, omega (arith, small), λ h. omega (arith, one-place t k (omega arith)))
+
+returns : tie.Need-returns Inv-loop μ-loop
+returns c =
+    let t = now (c .before .before .before .before .before .before .before .args .t) in
+    let l = c .before .before .before .before .before .loop in
+    let p = c .before .before .lowest-bad .ensures .0 in
+    let n = c .before .before .before .places-of .ensures .0 in
+    let a-rule = c .before .before .before .before .loop-test .taken in
+    let order : l .k + 11 ≡ 11 + l .k = omega arith in
+    c .flat-refusal .ensures ∙ ap₂ (λ (x y : ℕ). (x, y)) order p
+    ∙ sym (l .inv .1 ∙ broken-here 11 (flatRules t) (l .k) a-rule (omega (arith, p, n)))
+
+loop-again : tie.Need-loop-again Inv-loop μ-loop
+loop-again c =
+    let t = now (c .before .before .before .before .before .before .args .t) in
+    let l = c .before .before .before .before .loop in
+    let p = c .before .lowest-bad .ensures .0 in
+    let n = c .before .before .places-of .ensures .0 in
+    let a-rule = c .before .before .before .loop-test .taken in
+    (omega arith, l .inv .1 ∙ kept-here 11 (flatRules t) (l .k) a-rule (omega (arith, p, n)))
+
+returns-2 : tie.Need-returns-2 Inv-loop μ-loop
+unfolding answer
+returns-2 c =
+    let l = c .before .loop in
+    let t = now (c .before .before .before .args .t) in
+    let e : l .k ≡ 8 = omega arith in
+    sym (l .inv .1 ∙ ap (λ (k : ℕ). answer (11 + k) (drop k (flatRules t))) e)
+
+pub check-spec : {M : Type 1} → statement M
+check-spec =
+    tie.close
+    (tie.spec
+    Inv-loop μ-loop loop-holds (λ c κs. search needs) lowest-bad-requires (λ c. search needs)
+    flat-refusal-requires returns (λ c. search needs) (λ c. search needs) loop-again returns-2)

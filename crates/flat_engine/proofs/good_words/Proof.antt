@@ -1,0 +1,59 @@
+-- `flat_engine::good_words` meets its contract: each word passed is a state of its machine. Assumes nothing.
+use borrow.Author.Needs.{needs}
+use borrow.Author.Tests.{not-true, not-false}
+use Prim.Native.Nat.{_-_, _≤_}
+use mathlib.Core.Path.{_≡_, refl, sym, ap, _∙_}
+use mathlib.Core.Bool.{true}
+use native.Mathlib.Omega.{arith}
+use denote.Ref.{now}
+use Rattle.words.specs.Loops.{allBelow}
+use Rattle.words.proofs.Loops.{allBelow-next, allBelow-no}
+use Rattle.flat.specs.View.{flatView, stateOf?}
+use Rattle.flat_meaning.specs.State.{goodFlatWord?}
+use Rattle.flat_engine.proofs.good_words.Statement.{statement}
+use Rattle.flat_engine.proofs.good_words.Tie as tie
+
+abbrev Inv-loop : tie.InvT-loop
+Inv-loop t current machines m₀ m = (m ≤ machines) × (allBelow (goodFlatWord? (flatView t) current) m ≡ true)
+
+abbrev μ-loop : tie.MeasureT-loop
+μ-loop t current machines m₀ m = machines - m
+
+loop-holds : tie.Need-loop-holds Inv-loop μ-loop
+loop-holds c = (omega arith, refl)
+
+returns : tie.Need-returns Inv-loop μ-loop
+unfolding goodFlatWord?
+returns c =
+    let s = c .before .before .before .before .before .before .before .before .args in
+    let f = flatView (now (s .t)) in
+    let m = c .before .before .before .before .loop .m in
+    let is = c .before .is-state-of in
+    let read = ap (stateOf? f m) (c .before .before .number2 .ensures .0) in
+    let bad = sym (is .ensures ∙ read) ∙ not-true (is .result) (c .if1 .taken) in
+    sym (allBelow-no (goodFlatWord? f (now (s .current))) (f .machines) m (omega arith) bad)
+
+loop-again : tie.Need-loop-again Inv-loop μ-loop
+unfolding goodFlatWord?
+loop-again c =
+    let s = c .before .before .before .before .before .before .before .before .args in
+    let f = flatView (now (s .t)) in
+    let l = c .before .before .before .before .loop in
+    let is = c .before .is-state-of in
+    let read = ap (stateOf? f (l .m)) (c .before .before .number2 .ensures .0) in
+    let good = sym (is .ensures ∙ read) ∙ not-false (is .result) (c .if1 .left) in
+    (omega arith, allBelow-next (goodFlatWord? f (now (s .current))) (l .m) (l .inv .1) good)
+
+returns-2 : tie.Need-returns-2 Inv-loop μ-loop
+returns-2 c =
+    let s = c .before .before .before .before .before .args in
+    let f = flatView (now (s .t)) in
+    let e : c .before .loop .m ≡ f .machines = omega arith in
+    sym (ap (allBelow (goodFlatWord? f (now (s .current)))) (sym e) ∙ c .before .loop .inv .1)
+
+pub good-words-spec : {M : Type 1} → statement M
+good-words-spec =
+    tie.close
+    (tie.spec
+    Inv-loop μ-loop (λ c κs. search needs) loop-holds (λ c κs. search needs) (λ c κs. search needs) returns
+    (λ c. search needs) (λ c. search needs) loop-again returns-2)

@@ -1,0 +1,45 @@
+-- `flat_engine::is_state` meets its contract: the words in front of the variables are good. Assumes nothing.
+use borrow.Author.Needs.{needs}
+use Prim.Native.Nat.{ℕ, _+_}
+use mathlib.Core.Path.{_≡_, refl, sym, ap, _∙_}
+use native.Mathlib.Omega.{arith}
+use denote.Ref.{now}
+use lib.ListN.{length, take}
+use lib.Seq.{length-take-le}
+use Rattle.words.specs.Loops.{allBelow}
+use Rattle.words.proofs.Tests.{eqb-yes, eqb-no}
+use Rattle.flat.specs.View.{flatView}
+use Rattle.flat_meaning.specs.State.{flatLength, goodFlatWord?, flatStateOf?}
+use Rattle.flat_engine.proofs.is_state.Statement.{statement}
+use Rattle.flat_engine.proofs.is_state.Tie as tie
+
+returns : tie.Need-returns
+unfolding flatStateOf? flatLength
+returns c =
+    let s = c .before .before .before .before .before .args in
+    let f = flatView (now (s .t)) in
+    let differs = eqb-no {m = length (now (s .state))} {n = f .machines + f .variables} (λ e. c .if1 .taken (omega arith)) in
+    rw differs refl
+
+slice-aggregate-good-words : tie.Need-slice-aggregate-good-words
+slice-aggregate-good-words c =
+    let s = c .before .before .before .before .before .before .args in
+    sym (length-take-le (c .before .before .before .number .result) (now (s .state)) (omega arith))
+
+returns-2 : tie.Need-returns-2
+unfolding flatStateOf? flatLength
+returns-2 c =
+    let s = c .before .before .before .before .before .before .before .args in
+    let f = flatView (now (s .t)) in
+    let state = now (s .state) in
+    let long : length state ≡ f .machines + f .variables = omega arith in
+    rw (eqb-yes long)
+    (c .good-words .ensures
+    ∙ ap (λ (k : ℕ). allBelow (goodFlatWord? f (take k state)) (f .machines)) (c .before .before .before .before .number .ensures .0))
+
+pub is-state-spec : {M : Type 1} → statement M
+is-state-spec =
+    tie.close
+    (tie.spec
+    (λ c κs. search needs) (λ c κs. search needs) (λ c. search needs) returns slice-aggregate-good-words
+    (λ c κs. search needs) returns-2)

@@ -1,0 +1,55 @@
+-- `flat_engine::lay_initials` meets its contract: the initial states of the machines passed are laid. Assumes nothing.
+use borrow.Author.Needs.{needs}
+use Prim.Native.Nat.{_-_, _≤_}
+use mathlib.Core.Path.{_≡_}
+use native.Mathlib.Omega.{arith}
+use denote.Ref.{now}
+use Rattle.flat.specs.View.{flatView}
+use Rattle.flat_meaning.specs.State.{flatStartWords}
+use Rattle.flat_engine.proofs.Laid.{Front, lay-start, lay-next, lay-end, front-length}
+use Rattle.flat_engine.proofs.lay_initials.Statement.{statement}
+use Rattle.flat_engine.proofs.lay_initials.Tie as tie
+
+abbrev Inv-loop : tie.InvT-loop
+Inv-loop t state₀ machines at m₀ state m = (m ≤ machines) × Front (flatView t .initial) state₀ m state
+
+abbrev μ-loop : tie.MeasureT-loop
+μ-loop t state₀ machines at m₀ state m = machines - m
+
+loop-holds : tie.Need-loop-holds Inv-loop μ-loop
+loop-holds c = let s = c .before .before .before .before .args in (omega arith, lay-start (flatView (now (s .t)) .initial) (now (s .state)))
+
+loop-again : tie.Need-loop-again Inv-loop μ-loop
+loop-again c =
+    let start = c .before .before .before .before .before .before .before .before .before .before .before in
+    let s = start .args in
+    let f = flatView (now (s .t)) in
+    let l = c .before .before .before .before .before .before .loop in
+    let word : c .before .before .before .word .result ≡ f .initial (l .m) = cc in (
+      omega arith,
+      lay-next (f .initial) (now (s .state)) (l .m) _ (l .state) _
+          (omega (arith, start .pre .1)) word (l .inv .1) (c .before .before .put .ensures),
+    )
+
+same-length : tie.Need-same-length Inv-loop μ-loop
+same-length c =
+    let start = c .before .before .before .before .before .before in
+    let s = start .args in
+    let l = c .before .loop in
+    front-length (flatView (now (s .t)) .initial) (now (s .state)) (l .m) (l .state) (omega (arith, start .pre .1)) (l .inv .1)
+
+returns : tie.Need-returns Inv-loop μ-loop
+unfolding flatStartWords
+returns c =
+    let s = c .before .before .before .before .before .before .args in
+    let f = flatView (now (s .t)) in
+    let l = c .before .loop in
+    let e : l .m ≡ f .machines = omega arith in
+    lay-end (f .initial) (now (s .state)) (f .machines) (l .m) (l .state) e (l .inv .1)
+
+pub lay-initials-spec : {M : Type 1} → statement M
+lay-initials-spec =
+    tie.close
+    (tie.spec
+    Inv-loop μ-loop (λ c κs. search needs) (λ c κs. search needs) loop-holds (λ c. search needs)
+    (λ c κs. search needs) (λ c κs. search needs) (λ c. search needs) (λ c. search needs) loop-again same-length returns)

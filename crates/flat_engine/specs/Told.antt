@@ -1,0 +1,24 @@
+-- What a run of a flat table says, in 01's numbers, beside the lent words afterwards.
+use Prim.Native.Nat.{ℕ}
+use mathlib.Core.List.{List}
+use Rattle.table.specs.Answers.{refusalTold}
+use Rattle.effects.specs.declared.Progress.{Progress}
+use Rattle.flat_meaning.specs.Calls.{FlatRan, refusedFlatRun}
+use Rattle.flat_engine.specs.declared.FlatCounts.{FlatCounts}
+use Rattle.flat_engine.specs.declared.FlatRun.{FlatRun}
+use Rattle.flat_engine.specs.declared.FlatRun.the-variants.{Done, Refused}
+
+abbrev pub flatRanTold : FlatRun → List ℕ → List ℕ → FlatRan
+flatRanTold (Done n) state outputs = record {
+  answer = (0, 0);
+  microsteps = n .microsteps;
+  fired = n .fired;
+  given = n .outputs;
+  state = state;
+  outputs = outputs;
+}
+flatRanTold (Refused r) state outputs = refusedFlatRun (refusalTold r) state outputs
+
+-- What is reported of a finished macrostep.
+abbrev pub flatCountsOf : Progress → FlatCounts
+flatCountsOf n = record { microsteps = n .micro; fired = n .taken; outputs = n .outs }

@@ -1,0 +1,200 @@
+// The flat engine: the calls that start and run a flat table. It takes any table, state, event and room.
+ghost use mathlib.Core.Path.{_≡_};
+ghost use mathlib.Core.List.{_++_};
+ghost use Prim.Native.Nat.{_+_, _*_, _≤_};
+ghost use lib.ListN.{length, drop};
+ghost use Rattle.words.specs.Loops.{allBelow};
+ghost use Rattle.effects.specs.Lent.{startTold};
+ghost use Rattle.flat.specs.View.{flatView};
+ghost use Rattle.flat_rules.specs.Rules.{FlatRules};
+ghost use Rattle.flat_meaning.specs.State.{goodFlatWord?, flatStateOf?, flatStartWords};
+ghost use Rattle.flat_meaning.specs.Calls.{flatStartedOn, startFlat, flatRanOn, flatRanAccepted, runFlat};
+ghost use Rattle.macrostep.specs.Ends.{Sized};
+ghost use Rattle.flat_engine.specs.Told.{flatRanTold, flatCountsOf};
+use effects::Progress;
+use macrostep::Form;
+use table::Refusal;
+use table::Trigger;
+use table::Verdict;
+
+// What a run of a flat table says: done with its counts, or refused.
+pub enum FlatRun {
+    Done(FlatCounts),
+    Refused(Refusal),
+}
+
+// What a finished macrostep counted.
+pub struct FlatCounts {
+    pub microsteps: u32,
+    pub fired: u32,
+    pub outputs: u32,
+}
+
+// Whether every machine's word is a state of it.
+fn good_words(t: &[u16], current: &[u16]) -> bool
+    requires { ⌜ FlatRules (now t) ⌝ }
+    ensures { λ r. ⌜ r ≡ allBelow (goodFlatWord? (flatView (now (t .entry))) (now (current .entry))) (flatView (now (t .entry)) .machines) ⌝ }
+{
+    let machines = words::number(t, flat::MACHINES);
+    let mut m = 0;
+    while m < machines {
+        if !flat::is_state_of(t, m, words::number(current, m)) {
+            return false;
+        }
+        m += 1;
+    }
+    true
+}
+
+// Whether lent words are a state of the flat table.
+fn is_state(t: &[u16], state: &[u16]) -> bool
+    requires { ⌜ FlatRules (now t) ⌝ }
+    ensures { λ r. ⌜ r ≡ flatStateOf? (flatView (now (t .entry))) (now (state .entry)) ⌝ }
+{
+    let machines = words::number(t, flat::MACHINES);
+    if state.len() != machines + words::number(t, flat::VARIABLES) {
+        return false;
+    }
+    good_words(t, &state[..machines])
+}
+
+// Words in front, and variables behind them, into `state`.
+fn hand_back(current: &[u16], vars: &[u16], state: &mut [u16])
+    requires { ⌜ (length (now current) ≤ 48) × (length (now current) + length (now vars) ≡ length (now state)) ⌝ }
+    ensures { λ r. ⌜ now (state .exit) ≡ now (current .entry) ++ now (vars .entry) ⌝ }
+{
+    let n = current.len();
+    copies::load(&mut state[..n], current, 0);
+    copies::store(state, n, vars);
+}
+
+// What is reported of a finished macrostep.
+fn counts_of(n: Progress) -> FlatCounts
+    ensures { λ r. ⌜ r ≡ flatCountsOf n ⌝ }
+{
+    FlatCounts {
+        microsteps: n.micro,
+        fired: n.taken,
+        outputs: n.outs,
+    }
+}
+
+// One event on a state of an accepted flat table. `marks` has a bit for each guard; `current`, `next`, `vars` and `queue` are
+// the space that a macrostep works on.
+fn run_state(
+    t: &[u16],
+    marks: &mut [u16],
+    state: &mut [u16],
+    event: Trigger,
+    outputs: &mut [u16],
+    current: &mut [u16],
+    next: &mut [u16],
+    vars: &mut [u16],
+    queue: &mut [u16],
+) -> FlatRun
+    requires { ⌜ FlatRules (now t) × (flatView (now t) .guards ≤ 16 * length (now marks)) × (length (now current) ≡ flatView (now t) .machines) × Sized (now state) (now current) (now next) (now vars) (now queue) ⌝ }
+    ensures { λ r. ⌜ flatRanTold r (now (state .exit)) (now (outputs .exit)) ≡ flatRanOn (flatView (now (t .entry))) (now (state .entry)) (event .0) (now (outputs .entry)) ⌝ }
+{
+    let room = copies::room_of(outputs.len());
+    let n = macrostep::run(
+        Form::Flat,
+        t,
+        marks,
+        state,
+        event,
+        room,
+        current,
+        next,
+        vars,
+        outputs,
+        queue,
+    );
+    let stop = n.stop;
+    if effects::has_stopped(stop) {
+        return FlatRun::Refused(effects::refusal_of(stop));
+    }
+    hand_back(current, vars, state);
+    FlatRun::Done(counts_of(n))
+}
+
+// One event on a lent state, where the flat table is accepted.
+fn run_accepted(t: &[u16], state: &mut [u16], event: u32, outputs: &mut [u16]) -> FlatRun
+    requires { ⌜ FlatRules (now t) ⌝ }
+    ensures { λ r. ⌜ flatRanTold r (now (state .exit)) (now (outputs .exit)) ≡ flatRanAccepted (flatView (now (t .entry))) (now (state .entry)) event (now (outputs .entry)) ⌝ }
+{
+    if !is_state(t, state) {
+        return FlatRun::Refused(Refusal::State);
+    }
+    if words::number(t, flat::EVENTS) <= effects::wide(event) {
+        return FlatRun::Refused(Refusal::NoEvent);
+    }
+    let m = words::number(t, flat::MACHINES);
+    let v = words::number(t, flat::VARIABLES);
+    let g = words::number(t, flat::GUARDS) / 16 + 1;
+    let mut marks = [0u16; 147];
+    let mut current = [0u16; 24];
+    let mut next = [0u16; 24];
+    let mut vars = [0u16; 16];
+    let mut queue = [0u16; 96];
+    run_state(
+        t,
+        &mut marks[..g],
+        state,
+        Trigger(event),
+        outputs,
+        &mut current[..m],
+        &mut next[..m],
+        &mut vars[..v],
+        &mut queue,
+    )
+}
+
+// One event on a flat table, as document 01 says it for anything at all.
+pub fn run(t: &[u16], state: &mut [u16], event: u32, outputs: &mut [u16]) -> FlatRun
+    ensures { λ r. ⌜ flatRanTold r (now (state .exit)) (now (outputs .exit)) ≡ runFlat (now (t .entry)) (now (state .entry)) event (now (outputs .entry)) ⌝ }
+{
+    let verdict = flat_check::check(t);
+    match verdict {
+        Verdict::Refused(refusal) => FlatRun::Refused(refusal),
+        Verdict::Done => run_accepted(t, state, event, outputs),
+    }
+}
+
+// The initial states, into the front of `state`.
+fn lay_initials(t: &[u16], state: &mut [u16])
+    requires { ⌜ FlatRules (now t) × (flatView (now t) .machines ≤ length (now state)) ⌝ }
+    ensures { λ r. ⌜ now (state .exit) ≡ flatStartWords (flatView (now (t .entry))) ++ drop (flatView (now (t .entry)) .machines) (now (state .entry)) ⌝ }
+{
+    let machines = words::number(t, flat::MACHINES);
+    let at = words::number(t, flat::MACHINES_AT);
+    let mut m = 0;
+    while m < machines {
+        words::put(state, m, words::word(t, at + m));
+        m += 1;
+    }
+}
+
+// The start state of an accepted flat table, where `state` has its length.
+fn start_accepted(t: &[u16], state: &mut [u16]) -> Verdict
+    requires { ⌜ FlatRules (now t) ⌝ }
+    ensures { λ r. ⌜ startTold r (now (state .exit)) ≡ flatStartedOn (flatView (now (t .entry))) (now (state .entry)) ⌝ }
+{
+    let machines = words::number(t, flat::MACHINES);
+    if state.len() != machines + words::number(t, flat::VARIABLES) {
+        return Verdict::Refused(Refusal::State);
+    }
+    lay_initials(t, state);
+    copies::clear(state, machines);
+    Verdict::Done
+}
+
+// The start state of a flat table, as document 01 says it for anything at all.
+pub fn start(t: &[u16], state: &mut [u16]) -> Verdict
+    ensures { λ r. ⌜ startTold r (now (state .exit)) ≡ startFlat (now (t .entry)) (now (state .entry)) ⌝ }
+{
+    let verdict = flat_check::check(t);
+    match verdict {
+        Verdict::Refused(refusal) => Verdict::Refused(refusal),
+        Verdict::Done => start_accepted(t, state),
+    }
+}

@@ -1,0 +1,14 @@
+-- `flat_head::front_layout` meets its contract: what it returns is what its callees say. Assumes nothing.
+use borrow.Author.Needs.{needs}
+use Rattle.flat_head.proofs.front_layout.Statement.{statement}
+use Rattle.flat_head.proofs.front_layout.Tie as tie
+
+returns : tie.Need-returns
+returns c = cc
+
+pub front-layout-spec : {M : Type 1} → statement M
+front-layout-spec =
+    tie.close
+    (tie.spec
+    (λ c κs. search needs) (λ c κs. search needs) (λ c κs. search needs) (λ c κs. search needs)
+    (λ c κs. search needs) returns)

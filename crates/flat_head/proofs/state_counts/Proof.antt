@@ -1,0 +1,14 @@
+-- `flat_head::state_counts` meets its contract: what it returns is what its callees say. Assumes nothing.
+use borrow.Author.Needs.{needs}
+use Rattle.flat_head.proofs.state_counts.Statement.{statement}
+use Rattle.flat_head.proofs.state_counts.Tie as tie
+
+returns : tie.Need-returns
+returns c = cc
+
+pub state-counts-spec : {M : Type 1} → statement M
+state-counts-spec =
+    tie.close
+    (tie.spec
+    (λ c κs. search needs) (λ c κs. search needs) (λ c κs. search needs) (λ c κs. search needs)
+    (λ c κs. search needs) returns)

@@ -1,0 +1,14 @@
+-- `flat_rules::good_item` meets its contract: what it returns is what its callees say. Assumes nothing.
+use borrow.Author.Needs.{needs}
+use Rattle.flat_rules.proofs.good_item.Statement.{statement}
+use Rattle.flat_rules.proofs.good_item.Tie as tie
+
+returns : tie.Need-returns
+returns c = cc
+
+pub good-item-spec : {M : Type 1} → statement M
+good-item-spec =
+    tie.close
+    (tie.spec
+    (λ c κs. search needs) (λ c κs. search needs) (λ c κs. search needs) (λ c κs. search needs)
+    (λ c. search needs) (λ c. search needs) (λ c κs. search needs) returns)

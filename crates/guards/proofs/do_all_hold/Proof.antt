@@ -1,0 +1,70 @@
+-- `guards::do_all_hold` meets its contract: what is asked of all literals is asked of those left. Assumes nothing.
+use borrow.Author.Needs.{needs}
+use borrow.Author.Tests.{not-true, not-false}
+use Prim.Native.Nat.{ℕ, _+_, _≤_}
+use mathlib.Core.Path.{_≡_, sym, _∙_}
+use native.Mathlib.Omega.{arith}
+use denote.Ref.{now}
+use Rattle.words.specs.Loops.{many, all}
+use Rattle.words.proofs.Many.{all-good, all-bad, all-end}
+use Rattle.flat.specs.View.{Flat, flatView}
+use Rattle.flat.specs.Literals.{flatLiteralIn}
+use Rattle.flat.specs.declared.FlatLiteral.{FlatLiteral}
+use Rattle.flat_meaning.specs.Guards.{holdsFlat, literalsOf, allHold}
+use Rattle.marks.specs.Bits.{marked}
+use Rattle.guards.proofs.do_all_hold.Statement.{statement}
+use Rattle.guards.proofs.do_all_hold.Tie as tie
+
+-- literal n of a flat table
+abbrev literal : Flat → ℕ → FlatLiteral
+literal f n = flatLiteralIn (f .literal n)
+
+abbrev Inv-loop : tie.InvT-loop
+Inv-loop t current vars marks k at i₀ left₀ i left =
+    (i + left ≤ 200000)
+    × (allHold (flatView t) current vars (marked marks) k ≡ all (holdsFlat (flatView t) current vars (marked marks)) (many (literal (flatView t)) i left))
+
+abbrev μ-loop : tie.MeasureT-loop
+μ-loop t current vars marks k at i₀ left₀ i left = left
+
+loop-holds : tie.Need-loop-holds Inv-loop μ-loop
+unfolding allHold literalsOf
+loop-holds c = (omega arith, cc)
+
+returns : tie.Need-returns Inv-loop μ-loop
+returns c =
+    let s = c .before .before .before .before .before .before .before .before .before .before .before .before .args in
+    let l = c .before .before .before .before .loop in
+    let f = flatView (now (s .t)) in
+    let p = holdsFlat f (now (s .current)) (now (s .vars)) (marked (now (s .marks))) in
+    let told : c .before .does-hold .result ≡ p (literal f (l .i)) = cc in
+    sym (l .inv .1 ∙ all-bad p (literal f) (l .i) (l .left) (c .before .before .before .loop-test .taken)
+    (sym told ∙ not-true (c .before .does-hold .result) (c .if1 .taken)))
+
+loop-again : tie.Need-loop-again Inv-loop μ-loop
+loop-again c =
+    let s = c .before .before .before .before .before .before .before .before .before .before .before .before .args in
+    let l = c .before .before .before .before .loop in
+    let f = flatView (now (s .t)) in
+    let p = holdsFlat f (now (s .current)) (now (s .vars)) (marked (now (s .marks))) in
+    let told : c .before .does-hold .result ≡ p (literal f (l .i)) = cc in (
+      omega arith,
+      l .inv .1 ∙ all-good p (literal f) (l .i) (l .left) (c .before .before .before .loop-test .taken)
+          (sym told ∙ not-false (c .before .does-hold .result) (c .if1 .left)),
+    )
+
+returns-2 : tie.Need-returns-2 Inv-loop μ-loop
+returns-2 c =
+    let s = c .before .before .before .before .before .before .before .before .before .args in
+    let l = c .before .loop in
+    let f = flatView (now (s .t)) in
+    let p = holdsFlat f (now (s .current)) (now (s .vars)) (marked (now (s .marks))) in
+    sym (l .inv .1 ∙ all-end p (literal f) (l .i) (l .left) (c .loop-test .left))
+
+pub do-all-hold-spec : {M : Type 1} → statement M
+do-all-hold-spec =
+    tie.close
+    (tie.spec
+    Inv-loop μ-loop (λ c κs. search needs) (λ c κs. search needs) (λ c. search needs) (λ c κs. search needs)
+    loop-holds (λ c κs. search needs) (λ c κs. search needs) returns (λ c. search needs) (λ c. search needs)
+    (λ c. search needs) loop-again returns-2)

@@ -1,0 +1,2 @@
+-- `Bits`: numbers as the bits of words.
+pub mod Bits

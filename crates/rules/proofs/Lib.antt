@@ -1,0 +1,2 @@
+-- Laws of what this crate works out: `Firing` of the rules that fire.
+pub mod Firing

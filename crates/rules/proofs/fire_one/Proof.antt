@@ -1,0 +1,40 @@
+-- `rules::fire_one` meets its contract: what it returns is what its callees say. Assumes nothing.
+use borrow.Author.Needs.{needs}
+use borrow.Author.Tests.{not-true, not-false}
+use Prim.Native.Nat.{_+_}
+use mathlib.Core.Path.{_≡_, refl, sym, ap, _∙_}
+use denote.Ref.{now}
+use Rattle.table.specs.Span.{spanAt}
+use Rattle.effects.specs.Work.{doSteps}
+use Rattle.effects.proofs.Going.{one-step}
+use Rattle.flat.specs.View.{flatView}
+use Rattle.flat_meaning.specs.Steps.{flatItemsOf, ruleStep}
+use Rattle.rules.proofs.Firing.{span-does}
+use Rattle.rules.proofs.fire_one.Statement.{statement}
+use Rattle.rules.proofs.fire_one.Tie as tie
+
+returns : tie.Need-returns
+unfolding doSteps
+returns c =
+    rw (sym (c .before .does-fire .ensures) ∙ not-true (c .before .does-fire .result) (c .if1 .taken)) refl
+
+returns-2 : tie.Need-returns-2
+unfolding doSteps ruleStep
+returns-2 c =
+    let s = c .before .before .before .before .before .before .before .before .before .before .before .before .before .before .before .before .before .before .before .before .before .before .before .before .args in
+    let f = flatView (now (s .t)) in
+    let fires = c .before .before .before .before .before .before .before .before .before .before .before .before .before .before .before .before .before .does-fire in
+    let does = c .before .before .before .before .before .before .before .before .before .before .before .rule-at .result + 3 in
+    let at : spanAt (now (s .t)) does ≡ f .does (s .k) = cc in
+    rw (sym (fires .ensures) ∙ not-false (fires .result) (c .before .before .before .before .before .before .before .before .before .before .before .before .before .before .before .before .if1 .left))
+    (one-step (s .room) (ruleStep f (s .k)) (s .n) _ _ _ (now (s .next)) _ _ _ _ _ _ _
+    (c .before .before .before .before .before .before .before .count-take .ensures) (span-does (now (s .t)) does ∙ ap (flatItemsOf f) at)
+    (c .before .before .before .before .before .before .before .before .before .before .before .before .before .before .aim .ensures) (c .before .before .before .before .before .before .run-span .ensures))
+
+pub fire-one-spec : {M : Type 1} → statement M
+fire-one-spec =
+    tie.close
+    (tie.spec
+    (λ c κs. search needs) returns (λ c κs. search needs) (λ c κs. search needs) (λ c. search needs)
+    (λ c κs. search needs) (λ c κs. search needs) (λ c. search needs) (λ c. search needs) (λ c. search needs)
+    (λ c. search needs) returns-2)
