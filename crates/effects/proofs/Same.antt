@@ -1,6 +1,6 @@
 -- A macrostep as the code goes through it gives what is meant: the same words, variables, outputs and counts, or a stop
 -- for the same refusal. Assumes nothing.
-use Prim.Native.Nat.{ℕ, zero, suc, _+_, _*_, _≤_, _<_}
+use Prim.Native.Nat.{ℕ, zero, suc, _+_, _*_, _%_, _≤_, _<_}
 use mathlib.Core.Path.{_≡_, refl, sym, ap, _∙_, subst}
 use mathlib.Core.Bool.{cond}
 use mathlib.Core.List.{List, [], _∷_}
@@ -54,7 +54,7 @@ record Ahead (turns : ℕ) (s : St) : Type 0 where
 
 -- the signals l, if they are what waits, stand in q
 waits : {room head : ℕ} {v : Env} {q : List ℕ} → Fits room head v q → (l : List ℕ) → v .queue ≡ l
-    → (i : ℕ) → i < length l → getD q (head + i) 0 ≡ getD l i 0
+    → (i : ℕ) → i < length l → getD q ((head + i) % 32) 0 ≡ getD l i 0
 waits f l e i h = f .signals i (omega (arith, ap length e)) ∙ ap (λ (x : List ℕ). getD x i 0) e
 
 module _ (events room : ℕ) (small : room ≤ 256) (o : List ℕ) (m : Machine) (bounded : Bounded 10000 m) where
@@ -66,7 +66,7 @@ module _ (events room : ℕ) (small : room ≤ 256) (o : List ℕ) (m : Machine)
   -- a turn's end: nothing is left to do, or the next turn
   abbrev rest : ℕ → Going → Going
   rest f g =
-      let signal = getD (g .does .queue) (g .does .n .head) 0 in
+      let signal = getD (g .does .queue) (g .does .n .head % 32) 0 in
       cond (ended? (g .does .n)) g (turns f events room m (events + signal) (onN popped g))
 
   module _ (f : ℕ) (runs : Runs f) (head : ℕ) (early : head + suc f ≤ 64) where
@@ -93,7 +93,7 @@ module _ (events room : ℕ) (small : room ≤ 256) (o : List ℕ) (m : Machine)
         let z : head ≢ head + length (s .env .queue) = λ y. omega arith in
         let h = more-is head (head + 1) (omega arith) refl in
         let t : head + length (s .env .queue) ≡ head + 1 + length l = omega arith in
-        let here : getD q head 0 ≡ k = rw add-zero at (waits i (k ∷ l) e 0 (omega arith)) in
+        let here : getD q (head % 32) 0 ≡ k = rw add-zero at (waits i (k ∷ l) e 0 (omega arith)) in
         let up : (j : ℕ) → head + 1 + j ≡ head + suc j = λ j. omega arith in
         rw (eqb-no z, h, here, t)
         (runs (events + k) (head + 1) (withQueue l s) q (omega arith)
@@ -103,7 +103,7 @@ module _ (events room : ℕ) (small : room ≤ 256) (o : List ℕ) (m : Machine)
           waiting = omega (arith, i .waiting);
           early = omega arith;
           long = i .long;
-          signals = λ j y. ap (λ (x : ℕ). getD q x 0) (up j) ∙ waits i (k ∷ l) e (suc j) (omega arith);
+          signals = λ j y. ap (λ (x : ℕ). getD q (x % 32) 0) (up j) ∙ waits i (k ∷ l) e (suc j) (omega arith);
         }))
 
     module _ (s : St) (ahead : Ahead (suc f) s) (xs : List Step) (few : length xs ≤ 10000) where
@@ -156,7 +156,7 @@ module _ (events room : ℕ) (small : room ≤ 256) (o : List ℕ) (m : Machine)
 
 -- A macrostep of a machine of at most 10,000 steps a microstep, from any state words, variables and lent words.
 pub same : (events room : ℕ) (m : Machine) (e : ℕ) (words vars o q : List ℕ)
-    → Bounded 10000 m → room ≤ 256 → length q ≡ 96
+    → Bounded 10000 m → room ≤ 256 → length q ≡ 32
     → Outcome room o (macrostep events room m e words vars) (turns 64 events room m e (going fresh words vars o q))
 unfolding macrostep start written
 same events room m e words vars o q bounded small long =

@@ -1,6 +1,6 @@
 -- Items done in words show what items mean: the outputs are written in the words lent, and the waiting signals stand in
--- the queue's words from `head` on. Assumes nothing.
-use Prim.Native.Nat.{ℕ, _+_, _*_, _≤_, _<_}
+-- the queue's ring from `head` on. Assumes nothing.
+use Prim.Native.Nat.{ℕ, _+_, _*_, _%_, _≤_, _<_}
 use mathlib.Core.Path.{_≡_, refl, sym, ap, _∙_}
 use mathlib.Core.Bool.{true}
 use mathlib.Core.List.{List, [], _∷_, _++_}
@@ -41,13 +41,13 @@ shown o head k v q =
     })
     (v .vars) (written 0 (v .outs) o) q
 
--- v is within its limits, and its waiting signals stand in q.
+-- v is within its limits, and its waiting signals stand in q, a ring of 32 words.
 pub record Fits (room head : ℕ) (v : Env) (q : List ℕ) : Type 0 where
   pub few : length (v .outs) ≤ room
   pub waiting : length (v .queue) ≤ 32
   pub early : head ≤ 64
-  pub long : length q ≡ 96
-  pub signals : (i : ℕ) → i < length (v .queue) → getD q (head + i) 0 ≡ getD (v .queue) i 0
+  pub long : length q ≡ 32
+  pub signals : (i : ℕ) → i < length (v .queue) → getD q ((head + i) % 32) 0 ≡ getD (v .queue) i 0
 
 -- The work has stopped, for the refusal r.
 pub record Stopped (r : Refusal) (w : Work) : Type 0 where
@@ -93,31 +93,31 @@ module _ (room : ℕ) (small : room ≤ 256) (o : List ℕ) (head : ℕ) where
         (λ e. rw (e, le-leb room n (ltb-ge n room e)) (stopped (record { halts = refl; why = refl })))
 
     -- the signals that waited, and the one raised
-    raised-old : (x i : ℕ) → i < length (v .queue)
-        → getD (set q (head + length (v .queue)) x) (head + i) 0 ≡ getD (v .queue ++ (x ∷ [])) i 0
-    raised-old x i l =
-        getD-set-other q (head + length (v .queue)) (head + i) x 0 (λ e. omega arith)
+    raised-old : (x i : ℕ) → length (v .queue) < 32 → i < length (v .queue)
+        → getD (set q ((head + length (v .queue)) % 32) x) ((head + i) % 32) 0 ≡ getD (v .queue ++ (x ∷ [])) i 0
+    raised-old x i room l =
+        getD-set-other q ((head + length (v .queue)) % 32) ((head + i) % 32) x 0 (λ e. omega arith)
         ∙ f .signals i l
         ∙ sym (List·getD-append (v .queue) (x ∷ []) 0 i l)
 
     raised-new : (x : ℕ) → length (v .queue) < 32
-        → getD (set q (head + length (v .queue)) x) (head + length (v .queue)) 0
+        → getD (set q ((head + length (v .queue)) % 32) x) ((head + length (v .queue)) % 32) 0
         ≡ getD (v .queue ++ (x ∷ [])) (length (v .queue)) 0
     raised-new x l =
-        getD-set-same q (head + length (v .queue)) x 0 (omega (arith, f .early, f .long))
+        getD-set-same q ((head + length (v .queue)) % 32) x 0 (omega (arith, f .long))
         ∙ sym (getD-append-seam (v .queue) x [] 0)
 
     raised : (x : ℕ) → length (v .queue) < 32
         → Fits room head (record { vars = v .vars; outs = v .outs; queue = v .queue ++ (x ∷ []) })
-        (set q (head + length (v .queue)) x)
+        (set q ((head + length (v .queue)) % 32) x)
     raised x l =
         let n : length (v .queue ++ (x ∷ [])) ≡ length (v .queue) + 1 = length-append (v .queue) (x ∷ []) in
         record {
           few = f .few;
           waiting = omega arith;
           early = f .early;
-          long = length-set q (head + length (v .queue)) x ∙ f .long;
-          signals = λ i h. last-or i (length (v .queue)) (omega arith) (raised-old x i) (λ e. rw e (raised-new x l));
+          long = length-set q ((head + length (v .queue)) % 32) x ∙ f .long;
+          signals = λ i h. last-or i (length (v .queue)) (omega arith) (raised-old x i l) (λ e. rw e (raised-new x l));
         }
 
     raise-shows : (x : ℕ) → Shows room o head k (raiseTo x v) (onQueue (doRaise x) (shown o head k v q))

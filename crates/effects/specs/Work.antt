@@ -1,6 +1,6 @@
 -- A macrostep as the code goes through it: variables, outputs and queue are words in lent slices, and what is counted is a
--- struct. The queue is never wrapped round: at most 32 signals wait and at most 64 are taken, so 96 words hold all of them.
--- proofs/Same.antt shows that this gives what specs/Run.antt says.
+-- struct. The queue is a ring of 32 words: at most 32 signals wait, so signal k, counted from the macrostep's start, stands
+-- at word k % 32. proofs/Same.antt shows that this gives what specs/Run.antt says.
 use mathlib.Core.Bool.{Bool, true, false, cond, _||_}
 use mathlib.Core.List.{List, [], _∷_}
 use Prim.Native.Nat.{ℕ, zero, suc, _+_, _*_, _%_}
@@ -96,7 +96,7 @@ doRaise k w =
         entered = n .entered;
         stop = n .stop;
       },
-      set (w .1) (n .tail) k,
+      set (w .1) (n .tail % 32) k,
     )
 
 abbrev pub onOuts : (Progress × List ℕ → Progress × List ℕ) → Work → Work
@@ -218,4 +218,4 @@ turns zero events room m e g = onN (stopAt Microsteps) g
 turns (suc f) events room m e g =
     let h = onN microDone (doSteps room (m e (g .words) (g .does .vars)) g) in
     cond (ended? (h .does .n)) h
-    (turns f events room m (events + getD (h .does .queue) (h .does .n .head) 0) (onN popped h))
+    (turns f events room m (events + getD (h .does .queue) (h .does .n .head % 32) 0) (onN popped h))

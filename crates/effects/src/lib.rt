@@ -1,7 +1,7 @@
 // What items do: to running variables, outputs and the queue of signals; and what both engines need for a macrostep. It
 // knows items, and neither charts nor flat tables. specs/Run.antt says what it means, specs/Work.antt how the code goes.
 ghost use mathlib.Core.Path.{_≡_};
-ghost use Prim.Native.Nat.{_+_, _*_, _<_};
+ghost use Prim.Native.Nat.{_+_, _*_, _%_, _<_};
 ghost use lib.ListN.{getD};
 ghost use Rattle.effects.specs.Run.{leave, take, enter};
 ghost use Rattle.effects.specs.Work.{more, work, stopped?, stopAt, doEmit, doRaise, doItem, doItems, itemsFrom, spanItems, counted, microDone, popped, ended?, fresh, refusalOf};
@@ -83,7 +83,7 @@ fn raise(k: Signal, queue: &mut [u16], n: Progress) -> Progress
     if wide(n.head) + 32 <= wide(n.tail) {
         return stop_at(Stop::Signals, n);
     }
-    words::put(queue, wide(n.tail), k.0);
+    words::put(queue, wide(n.tail) % 32, k.0);
     let mut m = n;
     m.tail = one_more(n.tail);
     m
@@ -244,9 +244,9 @@ pub fn has_ended(n: Progress) -> bool
 
 // The oldest signal that waits, as a trigger.
 pub fn oldest(queue: &[u16], events: u16, n: Progress) -> Trigger
-    ensures { λ r. ⌜ r .0 ≡ events + getD (now (queue .entry)) (n .head) 0 ⌝ }
+    ensures { λ r. ⌜ r .0 ≡ events + getD (now (queue .entry)) (n .head % 32) 0 ⌝ }
 {
-    table::trigger_of(Signal(words::word(queue, wide(n.head))), events)
+    table::trigger_of(Signal(words::word(queue, wide(n.head) % 32)), events)
 }
 
 // A macrostep that has not begun.

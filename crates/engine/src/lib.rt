@@ -3,9 +3,11 @@ ghost use mathlib.Core.Path.{_≡_};
 ghost use mathlib.Core.List.{_++_};
 ghost use Prim.Native.Nat.{_+_, _≤_};
 ghost use lib.ListN.{length};
+ghost use Rattle.table.specs.Answers.{told};
 ghost use Rattle.effects.specs.Lent.{startTold};
 ghost use Rattle.chart.specs.View.{view};
 ghost use Rattle.chart_rules.specs.Rules.{ChartRules};
+ghost use Rattle.chart_check.specs.Answer.{chartAnswer};
 ghost use Rattle.meaning.specs.Steps.{rest};
 ghost use Rattle.meaning.specs.State.{orStates};
 ghost use Rattle.meaning.specs.Calls.{startedOn, startChart, ranOn, ranAccepted, runChart};
@@ -110,7 +112,7 @@ fn run_accepted(t: &[u16], state: &mut [u16], event: u32, outputs: &mut [u16]) -
     let mut current = [0u16; 24];
     let mut next = [0u16; 24];
     let mut vars = [0u16; 16];
-    let mut queue = [0u16; 96];
+    let mut queue = [0u16; 32];
     run_state(
         t,
         &mut ranks,
@@ -124,11 +126,18 @@ fn run_accepted(t: &[u16], state: &mut [u16], event: u32, outputs: &mut [u16]) -
     )
 }
 
+// The check's answer to a chart, in a call of its own: what it takes on the stack is free again for the run.
+fn checked(t: &[u16]) -> Verdict
+    ensures { λ r. ⌜ told r ≡ chartAnswer (now (t .entry)) ⌝ }
+{
+    chart_check::check(t)
+}
+
 // One event on a chart, as document 01 says it for anything at all.
 pub fn run(t: &[u16], state: &mut [u16], event: u32, outputs: &mut [u16]) -> ChartRun
     ensures { λ r. ⌜ ranTold r (now (state .exit)) (now (outputs .exit)) ≡ runChart (now (t .entry)) (now (state .entry)) event (now (outputs .entry)) ⌝ }
 {
-    let verdict = chart_check::check(t);
+    let verdict = checked(t);
     match verdict {
         Verdict::Refused(refusal) => ChartRun::Refused(refusal),
         Verdict::Done => run_accepted(t, state, event, outputs),

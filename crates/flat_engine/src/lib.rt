@@ -135,7 +135,7 @@ fn run_accepted(t: &[u16], state: &mut [u16], event: u32, outputs: &mut [u16]) -
     let mut current = [0u16; 24];
     let mut next = [0u16; 24];
     let mut vars = [0u16; 16];
-    let mut queue = [0u16; 96];
+    let mut queue = [0u16; 32];
     run_state(
         t,
         &mut marks[..g],

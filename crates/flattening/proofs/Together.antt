@@ -30,7 +30,7 @@ module _ {c : Chart} (w : Tree c) where
       let l = w .smaller k h z in within-up a k h z (within-over a j (c .parent k) (omega arith) p q)
 
   -- what is at or above j is so of all at or below j
-  within-trans : (a j k : ℕ) → k < c .states → within c a j ≡ true → within c j k ≡ true → within c a k ≡ true
+  pub within-trans : (a j k : ℕ) → k < c .states → within c a j ≡ true → within c j k ≡ true → within c a k ≡ true
   within-trans a j k h p q =
       ⊎-elim (λ e. rw (← e) p) (within-over a j k h p) (above-told c (w .some) (w .smaller) j k h q)
 

@@ -1,12 +1,13 @@
 -- The aid chart flattened, by computation: how large its table is and can be, and what it does on 01's seven events.
 use Prim.Native.Nat.{ℕ}
 use mathlib.Core.Path.{_≡_, refl}
-use mathlib.Core.List.{List, [], _∷_, _++_}
+use mathlib.Core.List.{List, [], _∷_}
 use lib.ListN.{length}
-use Rattle.effects.specs.Run.{Result, ok, refuse, St, macrostep}
 use Rattle.chart.specs.View.{view}
 use Rattle.chart.specs.Aid.{aid}
-use Rattle.flattening.specs.Tables.{Table, tableMachine}
+use Rattle.flat_meaning.specs.Calls.{FlatRan, startFlat, runFlat}
+use Rattle.flat_meaning.specs.Opened.{opened}
+use Rattle.flattening.specs.Tables.{Table}
 use Rattle.flattening.specs.Flattened.{flattened}
 use Rattle.flattening.specs.Room.{guardsBound, literalsBound, rulesBound, roomNeeded}
 use Rattle.flattening.specs.Encoded.{allLiterals, encode}
@@ -37,32 +38,49 @@ pub bounds : Bounds
 unfolding flatOpened
 bounds = record { guards = refl; literals = refl; rules = refl; words = refl }
 
--- What an event tells: microsteps, rules fired and outputs; a refusal tells nothing.
-abbrev brief : Result St → List ℕ × List (ℕ × ℕ)
-brief (ok s) = (s .micro ∷ s .taken ∷ [], s .env .outs)
-brief (refuse r) = ([], [])
+-- Room for four outputs.
+abbrev noOutputs : List ℕ
+noOutputs = 0 ∷ 0 ∷ 0 ∷ 0 ∷ 0 ∷ 0 ∷ 0 ∷ 0 ∷ []
 
--- The words and variables for the next event: those before it, where it is refused.
-abbrev onward : Result St → List ℕ × List ℕ → List ℕ × List ℕ
-onward (ok s) before = (s .words, s .env .vars)
-onward (refuse r) before = before
+-- An event that is done in `micro` microsteps.
+abbrev pub done : ℕ → ℕ → ℕ → List ℕ → List ℕ → FlatRan
+done micro fired given state outputs = record {
+  answer = (0, 0);
+  microsteps = micro;
+  fired = fired;
+  given = given;
+  state = state;
+  outputs = outputs;
+}
 
-abbrev lines : Table → List ℕ × List ℕ → List ℕ → List (List ℕ × List (ℕ × ℕ))
-lines g s [] = (s .0 ++ s .1, []) ∷ []
-lines g s (e ∷ es) =
-    let r = macrostep (g .events) 256 (tableMachine g) e (s .0) (s .1) in
-    brief r ∷ lines g (onward r s) es
+-- The words of the aid chart's flat table on 01's seven events: the chart's answers, microsteps, outputs and variables. The
+-- and-states 1 2 4 5 7 8 are the flat states 0 to 5; the word 40000 is -25536.
+pub record SevenEvents (flat : List ℕ) : Type 0 where
+  pub started : (a b c d : ℕ) → startFlat flat (a ∷ b ∷ c ∷ d ∷ []) ≡ record { answer = (0, 0); state = 0 ∷ 2 ∷ 4 ∷ 0 ∷ [] }
+  pub first : runFlat flat (0 ∷ 2 ∷ 4 ∷ 0 ∷ []) 0 noOutputs
+      ≡ done 1 3 1 (1 ∷ 2 ∷ 4 ∷ 20000 ∷ []) (1 ∷ 20000 ∷ 0 ∷ 0 ∷ 0 ∷ 0 ∷ 0 ∷ 0 ∷ [])
+  pub second : runFlat flat (1 ∷ 2 ∷ 4 ∷ 20000 ∷ []) 3 noOutputs
+      ≡ done 2 3 1 (1 ∷ 3 ∷ 5 ∷ 20000 ∷ []) (2 ∷ 0 ∷ 0 ∷ 0 ∷ 0 ∷ 0 ∷ 0 ∷ 0 ∷ [])
+  pub third : runFlat flat (1 ∷ 3 ∷ 5 ∷ 20000 ∷ []) 2 noOutputs
+      ≡ done 1 4 2 (1 ∷ 2 ∷ 4 ∷ 20000 ∷ []) (0 ∷ 0 ∷ 3 ∷ 0 ∷ 0 ∷ 0 ∷ 0 ∷ 0 ∷ [])
+  pub fourth : runFlat flat (1 ∷ 2 ∷ 4 ∷ 20000 ∷ []) 2 noOutputs
+      ≡ done 1 1 1 (1 ∷ 3 ∷ 4 ∷ 20000 ∷ []) (2 ∷ 0 ∷ 0 ∷ 0 ∷ 0 ∷ 0 ∷ 0 ∷ 0 ∷ [])
+  pub fifth : runFlat flat (1 ∷ 3 ∷ 4 ∷ 20000 ∷ []) 1 noOutputs
+      ≡ done 1 2 1 (0 ∷ 3 ∷ 4 ∷ 20000 ∷ []) (3 ∷ 0 ∷ 0 ∷ 0 ∷ 0 ∷ 0 ∷ 0 ∷ 0 ∷ [])
+  pub sixth : runFlat flat (0 ∷ 3 ∷ 4 ∷ 20000 ∷ []) 0 noOutputs
+      ≡ done 1 4 2 (1 ∷ 3 ∷ 4 ∷ 40000 ∷ []) (1 ∷ 40000 ∷ 2 ∷ 0 ∷ 0 ∷ 0 ∷ 0 ∷ 0 ∷ [])
+  pub seventh : runFlat flat (1 ∷ 3 ∷ 4 ∷ 40000 ∷ []) 2 noOutputs
+      ≡ done 1 2 1 (1 ∷ 2 ∷ 4 ∷ 40000 ∷ []) (3 ∷ 0 ∷ 0 ∷ 0 ∷ 0 ∷ 0 ∷ 0 ∷ 0 ∷ [])
 
--- The same outputs and microsteps as the chart's, and the words at the end.
-pub seven : lines flatAid (flatAid .initials, 0 ∷ []) (0 ∷ 3 ∷ 2 ∷ 2 ∷ 1 ∷ 0 ∷ 2 ∷ [])
-    ≡ (1 ∷ 3 ∷ [], (1, 20000) ∷ [])
-    ∷ (2 ∷ 3 ∷ [], (2, 0) ∷ [])
-    ∷ (1 ∷ 4 ∷ [], (0, 0) ∷ (3, 0) ∷ [])
-    ∷ (1 ∷ 1 ∷ [], (2, 0) ∷ [])
-    ∷ (1 ∷ 2 ∷ [], (3, 0) ∷ [])
-    ∷ (1 ∷ 4 ∷ [], (1, 40000) ∷ (2, 0) ∷ [])
-    ∷ (1 ∷ 2 ∷ [], (3, 0) ∷ [])
-    ∷ (1 ∷ 2 ∷ 4 ∷ 40000 ∷ [], [])
-    ∷ []
-unfolding flatOpened
-seven = refl
+pub seven : SevenEvents (encode flatAid)
+unfolding flatOpened opened
+seven = record {
+  started = λ a b c d. refl;
+  first = refl;
+  second = refl;
+  third = refl;
+  fourth = refl;
+  fifth = refl;
+  sixth = refl;
+  seventh = refl;
+}

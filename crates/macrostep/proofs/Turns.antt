@@ -1,5 +1,5 @@
 -- Slices that are filled, and one turn of the macrostep's loop. Assumes nothing.
-use Prim.Native.Nat.{ℕ, suc, _+_, _-_, _<_, _≤_}
+use Prim.Native.Nat.{ℕ, suc, _+_, _-_, _%_, _<_, _≤_}
 use mathlib.Core.Path.{_≡_, refl, sym, ap, _∙_}
 use mathlib.Core.Bool.{true, false, cond}
 use mathlib.Core.List.{List}
@@ -38,7 +38,7 @@ module _ (events room : ℕ) (m : Machine) where
   -- what follows a microstep
   after : ℕ → Going → Going
   after f h =
-      cond (ended? (h .does .n)) h (turns f events room m (events + getD (h .does .queue) (h .does .n .head) 0) (onN popped h))
+      cond (ended? (h .does .n)) h (turns f events room m (events + getD (h .does .queue) (h .does .n .head % 32) 0) (onN popped h))
 
   one-turn : (f e : ℕ) (g : Going)
       → turns (suc f) events room m e g ≡ after f (onN microDone (doSteps room (m e (g .words) (g .does .vars)) g))
@@ -57,7 +57,7 @@ module _ (events room : ℕ) (m : Machine) where
     unfolding after
     ends h = turned ∙ rw h refl
 
-    pub goes-on : ended? q ≡ false → (k e′ : ℕ) → k ≡ events → e′ ≡ k + getD queue′ (q .head) 0 → (p : Progress) → p ≡ popped q
+    pub goes-on : ended? q ≡ false → (k e′ : ℕ) → k ≡ events → e′ ≡ k + getD queue′ (q .head % 32) 0 → (p : Progress) → p ≡ popped q
         → turns f events room m e (going n words vars outs queue) ≡ turns (f - 1) events room m e′ (going p words′ vars′ outs′ queue′)
     unfolding after
     goes-on h k e′ is a p b = turned ∙ rw (h, a, is, b) refl

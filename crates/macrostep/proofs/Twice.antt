@@ -1,23 +1,25 @@
 -- A macrostep that is tried with no room for its outputs and then, if it has any, gone through again, ends as is meant.
 -- Assumes nothing.
-use Prim.Native.Nat.{ℕ, _≤_}
+use Prim.Native.Nat.{ℕ, zero, suc, _-_, _≤_, _<_}
 use mathlib.Core.Path.{_≡_, refl, sym, _∙_, subst}
-use mathlib.Core.Bool.{true, false, cond}
-use mathlib.Core.List.{List, [], _∷_}
+use mathlib.Core.Bool.{true, false}
+use mathlib.Core.Logic.{_≢_}
+use mathlib.Core.List.{List, [], _∷_, _++_, append-nil}
 use native.Mathlib.Omega.{arith}
 use lib.Dec.{eqb}
-use lib.ListN.{length}
-use Rattle.words.proofs.Tests.{by-bool, clash, eqb-eq}
+use lib.ListN.{length, take, drop}
+use lib.Seq.{take-length, drop-length}
+use Rattle.words.proofs.Tests.{by-bool, clash, eqb-eq, eqb-yes, or-l, or-r}
 use Rattle.effects.specs.declared.Progress.{Progress}
-use Rattle.effects.specs.Run.{Result, St, written, Machine, macrostep}
-use Rattle.effects.specs.Work.{Going, going, fresh, stopped?, refusalOf, turns}
-use Rattle.effects.proofs.Same.{Bounded, Outcome, done, refused, same}
+use Rattle.effects.specs.Run.{Result, ok, St, written, Machine, macrostep}
+use Rattle.effects.specs.Work.{Going, going, fresh, stopped?, turns}
+use Rattle.effects.proofs.Same.{Bounded, Done, Outcome, done, refused, same}
 use Rattle.meaning.proofs.Small.{machine-small}
 use Rattle.flat_meaning.proofs.Small.{flat-machine-small}
 use Rattle.macrostep.specs.declared.Form.{Form}
 use Rattle.macrostep.specs.declared.Form.the-variants.{Chart, Flat}
 use Rattle.macrostep.specs.Forms.{machineOf, Ready}
-use Rattle.macrostep.specs.Ends.{Ended, Halted, Ends, ended, halted}
+use Rattle.macrostep.specs.Ends.{last?, Ended, Halted, Ends, ended, halted}
 
 -- no microstep has more than 10,000 steps
 pub form-small : (form : Form) (t own : List ℕ) → Ready t own form → Bounded 10000 (machineOf form t)
@@ -29,19 +31,34 @@ unfolding written
 written-none [] o h = refl
 written-none (p ∷ ps) o h = absurd (omega arith)
 
-module _ (room : ℕ) (lent : List ℕ) where
-  -- what was tried has stopped
-  tried-stops : {meant : Result St} {o : List ℕ} {g : Going} (words vars : List ℕ)
-      → Outcome room o meant g → stopped? (g .does .n .stop) ≡ true → Ends lent (g .does .n) words vars lent meant
-  tried-stops words vars (done {s} {g} d) h = clash (stopped? (g .does .n .stop)) h (rw (d .fine) refl)
-  tried-stops words vars (refused s) h = halted (record { halts = h; why = s .why; outs-stay = refl })
+-- What is known before the macrostep is gone through with k of the words o lent: it has not been tried, or it has ended well and
+-- all are lent.
+pub data Before (o : List ℕ) (k : ℕ) : Result St → Type 0 where
+  untried : {meant : Result St} → k ≡ 0 → Before o k meant
+  tried : {s : St} → k ≡ length o → Before o k (ok s)
 
-  -- what was tried has gone well, and had no outputs
-  tried-done : {meant : Result St} {o : List ℕ} {g : Going}
-      → Outcome room o meant g → stopped? (g .does .n .stop) ≡ false → g .does .n .outs ≡ 0
-      → Ends lent (g .does .n) (g .words) (g .does .vars) lent meant
-  tried-done (done {s} d) h z = ended (record {
-    goes-on = h;
+-- a time that is lent all words is the last
+all-last : (n : Progress) (o : List ℕ) (k : ℕ) → k ≡ length o → last? n k (length o) ≡ true
+unfolding last?
+all-last n o k z = or-r (stopped? (n .stop)) _ (or-r (eqb (n .outs) 0) _ (eqb-yes z))
+
+-- where no word was lent none has changed
+none-lent : (o part : List ℕ) (k : ℕ) → k ≡ 0 → length part ≡ length (take k o) → part ++ drop k o ≡ o
+none-lent o [] zero z l = refl
+none-lent o (x ∷ xs) zero z l = absurd (omega arith)
+none-lent o part (suc k) z l = absurd (omega arith)
+
+-- where all were lent all are written
+all-lent : (o part : List ℕ) (k : ℕ) (ps : List (ℕ × ℕ)) → k ≡ length o → part ≡ written 0 ps (take k o)
+    → part ++ drop k o ≡ written 0 ps o
+all-lent o part k ps z e = rw (e, z, take-length o, drop-length o, append-nil)
+
+module _ (room : ℕ) (o : List ℕ) (k : ℕ) where
+  -- what has gone well, with the outputs written
+  well : {s : St} {g : Going} → Done room (take k o) s g → (outs : List ℕ) → outs ≡ written 0 (s .env .outs) o
+      → Ends o (g .does .n) (g .words) (g .does .vars) outs (ok s)
+  well d outs e = ended (record {
+    goes-on = rw (d .fine) refl;
     micro = d .micro;
     left = d .left;
     taken = d .taken;
@@ -49,51 +66,65 @@ module _ (room : ℕ) (lent : List ℕ) where
     given = d .outs-count;
     words-are = d .words;
     vars-are = d .vars;
-    outs-are = written-none (s .env .outs) lent (sym (d .outs-count) ∙ z);
+    outs-are = e;
   })
-  tried-done (refused {r} {g} s) h z = clash (stopped? (g .does .n .stop)) (s .halts) h
 
-  -- what was tried has gone well, and goes well with the words lent
-  again-done : {meant : Result St} {o : List ℕ} {g g₂ : Going}
-      → Outcome room o meant g → stopped? (g .does .n .stop) ≡ false → Outcome room lent meant g₂
-      → Ends lent (g₂ .does .n) (g₂ .words) (g₂ .does .vars) (g₂ .does .outs) meant
-  again-done (done d) h (done e) = ended (record {
-    goes-on = rw (e .fine) refl;
-    micro = e .micro;
-    left = e .left;
-    taken = e .taken;
-    entered = e .entered;
-    given = e .outs-count;
-    words-are = e .words;
-    vars-are = e .vars;
-    outs-are = e .outs;
-  })
-  again-done (refused {r} {g} s) h _ = clash (stopped? (g .does .n .stop)) (s .halts) h
+  -- the last time ends as is meant
+  pass-ends : {meant : Result St} {g : Going} → Before o k meant → Outcome room (take k o) meant g
+      → length (g .does .outs) ≡ length (take k o) → last? (g .does .n) k (length o) ≡ true
+      → Ends o (g .does .n) (g .words) (g .does .vars) (g .does .outs ++ drop k o) meant
+  unfolding last?
+  pass-ends (untried z) (done {s} {g} d) l h =
+      by-bool (eqb (g .does .n .outs) 0)
+      (λ e. well d _ (none-lent o (g .does .outs) k z l ∙ written-none (s .env .outs) o (sym (d .outs-count) ∙ eqb-eq (g .does .n .outs) 0 e)))
+      (λ e. well d _ (all-lent o (g .does .outs) k (s .env .outs) (eqb-eq k (length o) (rw (d .fine, e) at h)) (d .outs)))
+  pass-ends (untried z) (refused {r} {g} s) l h =
+      halted (record { halts = s .halts; why = s .why; outs-stay = none-lent o (g .does .outs) k z l })
+  pass-ends (tried z) (done {s} {g} d) l h = well d _ (all-lent o (g .does .outs) k (s .env .outs) z (d .outs))
 
-module _ (events room : ℕ) (m : Machine) (e : ℕ) (words vars lent : List ℕ) (bounded : Bounded 10000 m) (small : room ≤ 256) where
-  -- where the code comes to, with these words for outputs and for the queue
-  abbrev gone : List ℕ → List ℕ → Going
-  gone o q = turns 64 events room m e (going fresh words vars o q)
+  -- a time that is not the last has ended well, and changed no word
+  pass-again : {meant : Result St} {g : Going} → Before o k meant → Outcome room (take k o) meant g
+      → length (g .does .outs) ≡ length (take k o) → last? (g .does .n) k (length o) ≡ false
+      → Before o (length o) meant × (g .does .outs ++ drop k o ≡ o)
+  unfolding last?
+  pass-again (untried z) (done {s} {g} d) l h = (tried refl, none-lent o (g .does .outs) k z l)
+  pass-again (untried z) (refused {r} {g} s) l h =
+      clash (last? (g .does .n) k (length o)) (or-l (stopped? (g .does .n .stop)) _ (s .halts)) h
+  pass-again (tried z) (done {s} {g} d) l h = clash (last? (g .does .n) k (length o)) (all-last (g .does .n) o k z) h
 
-  outcome : (o q : List ℕ) → length q ≡ 96 → (g : Going) → g ≡ gone o q → Outcome room o (macrostep events room m e words vars) g
-  outcome o q long g p = rw p (same events room m e words vars o q bounded small long)
+-- the words lent are there
+pub before-fits : {o : List ℕ} {k : ℕ} {meant : Result St} → Before o k meant → k ≤ length o
+before-fits (untried z) = omega arith
+before-fits (tried z) = omega arith
 
-  -- The first run, which was lent the words `nothing` for outputs, came to n and these words.
-  module _ (nothing queue : List ℕ) (long : length queue ≡ 96) (n : Progress) (current vars′ nothing′ queue′ : List ℕ)
-      (first : going n current vars′ nothing′ queue′ ≡ gone nothing queue) where
-    pub ends-stopped : stopped? (n .stop) ≡ true → Ends lent n current vars′ lent (macrostep events room m e words vars)
-    ends-stopped h = tried-stops room lent current vars′ (outcome nothing queue long (going n current vars′ nothing′ queue′) first) h
+-- all words are more than those of a time that is not the last
+pub last-less : (o : List ℕ) (k : ℕ) (n : Progress) → k ≤ length o → last? n k (length o) ≡ false
+    → length o - length o < length o - k
+last-less o k n l h =
+    let ne : k ≢ length o = λ z. clash (last? n k (length o)) (all-last n o k z) h in
+    omega arith
 
-    -- The second came to r and these words.
-    pub ends-done : stopped? (n .stop) ≡ false → length queue′ ≡ 96
-        → (r : Progress) (current″ vars″ outs″ queue″ : List ℕ)
-        → going r current″ vars″ outs″ queue″ ≡ cond (eqb (n .outs) 0) (going n current vars′ lent queue′) (gone lent queue′)
-        → Ends lent r current″ vars″ outs″ (macrostep events room m e words vars)
-    ends-done h long′ r current″ vars″ outs″ queue″ second =
-        let meant = macrostep events room m e words vars in
-        let once = outcome nothing queue long (going n current vars′ nothing′ queue′) first in
-        by-bool (eqb (n .outs) 0)
-        (λ z. let back : going n current vars′ lent queue′ ≡ going r current″ vars″ outs″ queue″ = sym (rw z at second) in
-        subst (λ (g : Going). Ends lent (g .does .n) (g .words) (g .does .vars) (g .does .outs) meant) back
-        (tried-done room lent once h (eqb-eq (n .outs) 0 z)))
-        (λ z. again-done room lent once h (outcome lent queue′ long′ (going r current″ vars″ outs″ queue″) (rw z at second)))
+module _ (events room : ℕ) (m : Machine) (e i : ℕ) (state o : List ℕ) (bounded : Bounded 10000 m) (small : room ≤ 256) where
+  abbrev meant : Result St
+  meant = macrostep events room m e (take i state) (drop i state)
+
+  -- The macrostep, gone through with k of the words `outs` lent, came to n and these words.
+  module _ (j k : ℕ) (outs queue : List ℕ) (same-words : j ≡ i) (same-outs : outs ≡ o) (long : length queue ≡ 32)
+      (before : Before o k meant) (n : Progress) (current vars part queue′ : List ℕ)
+      (pass : going n current vars part queue′ ≡ turns 64 events room m e (going fresh (take j state) (drop j state) (take k outs) queue))
+      (as-long : length part ≡ length (take k outs)) where
+    came : Outcome room (take k o) meant (going n current vars part queue′)
+    came =
+        let alike : turns 64 events room m e (going fresh (take j state) (drop j state) (take k outs) queue)
+        ≡ turns 64 events room m e (going fresh (take i state) (drop i state) (take k o) queue) = rw (same-words, same-outs) refl in
+        subst (Outcome room (take k o) meant) (sym (pass ∙ alike))
+        (same events room m e (take i state) (drop i state) (take k o) queue bounded small long)
+
+    part-long : length part ≡ length (take k o)
+    part-long = rw same-outs at as-long
+
+    pub last-ends : last? n k (length o) ≡ true → Ends o n current vars (part ++ drop k outs) meant
+    last-ends h = rw same-outs (pass-ends room o k before came part-long h)
+
+    pub goes-again : last? n k (length o) ≡ false → Before o (length o) meant × (part ++ drop k outs ≡ o)
+    goes-again h = rw same-outs (pass-again room o k before came part-long h)

@@ -1,9 +1,10 @@
 -- How a macrostep that the code has gone through stands to what is meant.
 use Prim.Native.Nat.{ℕ, _+_, _≤_}
 use mathlib.Core.Path.{_≡_}
-use mathlib.Core.Bool.{true, false}
+use mathlib.Core.Bool.{Bool, true, false, _||_}
 use mathlib.Core.List.{List}
 use lib.ListN.{length}
+use lib.Dec.{eqb}
 use Rattle.table.specs.declared.Refusal.{Refusal}
 use Rattle.effects.specs.Run.{Result, ok, refuse, St, written}
 use Rattle.effects.specs.Work.{stopped?, refusalOf}
@@ -14,7 +15,11 @@ pub record Sized (state current next vars queue : List ℕ) : Type 0 where
   pub few : length current ≤ 48
   pub next-long : length next ≡ length current
   pub state-long : length state ≡ length current + length vars
-  pub queue-long : length queue ≡ 96
+  pub queue-long : length queue ≡ 32
+
+-- A macrostep that was lent k of `all` words for its outputs has stopped, gave none, or was lent all: it is not gone through again.
+unfoldable pub last? : Progress → ℕ → ℕ → Bool
+last? n k all = stopped? (n .stop) || (eqb (n .outs) 0 || eqb k all)
 
 -- The progress, words, variables and outputs are those of s; `lent` were the outputs' words before.
 pub record Ended (lent : List ℕ) (s : St) (n : Progress) (words vars outs : List ℕ) : Type 0 where

@@ -1,14 +1,12 @@
 // A macrostep of a chart or of a flat table: microsteps until no signal waits. What the two forms have in common stands here
 // once; `step` alone tells them apart.
 ghost use mathlib.Core.Path.{_≡_};
-ghost use mathlib.Core.Bool.{cond};
 ghost use Prim.Native.Nat.{_+_, _≤_};
 ghost use lib.ListN.{length, take, drop};
-ghost use lib.Dec.{eqb};
 ghost use Rattle.effects.specs.Run.{macrostep};
 ghost use Rattle.effects.specs.Work.{going, doSteps, onN, microDone, turns, fresh};
 ghost use Rattle.macrostep.specs.Forms.{machineOf, eventsOf, Ready};
-ghost use Rattle.macrostep.specs.Ends.{Sized, Ends};
+ghost use Rattle.macrostep.specs.Ends.{Sized, last?, Ends};
 use effects::Progress;
 use effects::Stop;
 use table::Trigger;
@@ -152,41 +150,18 @@ fn attempt(
     )
 }
 
-// The macrostep again, with `outs` for its outputs, where it gave any.
-fn give_outputs(
-    form: Form,
-    t: &[u16],
-    own: &mut [u16],
-    state: &[u16],
-    event: Trigger,
-    room: usize,
-    current: &mut [u16],
-    next: &mut [u16],
-    vars: &mut [u16],
-    outs: &mut [u16],
-    queue: &mut [u16],
-    n: Progress,
-) -> Progress
-    requires { ⌜ Ready (now t) (now own) form × Sized (now state) (now current) (now next) (now vars) (now queue) ⌝ }
-    ensures is { λ r. ⌜ going r (now (current .exit)) (now (vars .exit)) (now (outs .exit)) (now (queue .exit)) ≡ cond (eqb (n .outs) 0) (going n (now (current .entry)) (now (vars .entry)) (now (outs .entry)) (now (queue .entry))) (turns 64 (eventsOf (now (t .entry))) room (machineOf form (now (t .entry))) (event .0) (going fresh (take (length (now (current .entry))) (now (state .entry))) (drop (length (now (current .entry))) (now (state .entry))) (now (outs .entry)) (now (queue .entry)))) ⌝ }
-    ensures ready { λ r. ⌜ Ready (now (t .entry)) (now (own .exit)) form ⌝ }
+// Whether a macrostep that was lent `lent` of `all` words for its outputs is not to be gone through again.
+fn is_last(n: Progress, lent: usize, all: usize) -> bool
+    ensures { λ r. ⌜ r ≡ last? n lent all ⌝ }
 {
-    if n.outs == 0 {
-        return n;
+    let stop = n.stop;
+    if effects::has_stopped(stop) {
+        return true;
     }
-    attempt(
-        form,
-        t,
-        own,
-        state,
-        event,
-        room,
-        current,
-        next,
-        vars,
-        outs,
-        queue,
-    )
+    if n.outs == 0 {
+        return true;
+    }
+    lent == all
 }
 
 // A macrostep from `state`, which stays as it is. It is tried first with no room for its outputs lent, so that a refused one
@@ -208,36 +183,25 @@ pub fn run(
     ensures ends { λ r. ⌜ Ends (now (outputs .entry)) r (now (current .exit)) (now (vars .exit)) (now (outputs .exit)) (macrostep (eventsOf (now (t .entry))) room (machineOf form (now (t .entry))) (event .0) (take (length (now (current .entry))) (now (state .entry))) (drop (length (now (current .entry))) (now (state .entry)))) ⌝ }
     ensures ready { λ r. ⌜ Ready (now (t .entry)) (now (own .exit)) form ⌝ }
 {
-    let mut nothing = [0u16; 0];
-    let n = attempt(
-        form,
-        t,
-        own,
-        state,
-        event,
-        room,
-        current,
-        next,
-        vars,
-        &mut nothing,
-        queue,
-    );
-    let stop = n.stop;
-    if effects::has_stopped(stop) {
-        return n;
+    let all = outputs.len();
+    let mut lent = 0;
+    loop {
+        let n = attempt(
+            form,
+            t,
+            own,
+            state,
+            event,
+            room,
+            current,
+            next,
+            vars,
+            &mut outputs[..lent],
+            queue,
+        );
+        if is_last(n, lent, all) {
+            return n;
+        }
+        lent = all;
     }
-    give_outputs(
-        form,
-        t,
-        own,
-        state,
-        event,
-        room,
-        current,
-        next,
-        vars,
-        outputs,
-        queue,
-        n,
-    )
 }

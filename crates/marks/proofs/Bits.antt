@@ -29,7 +29,7 @@ or-digit zero (suc (suc y)) h k = absurd (omega arith)
 or-digit (suc zero) (suc (suc y)) h k = absurd (omega arith)
 or-digit (suc (suc x)) y h k = absurd (omega arith)
 
-bit-or : (a b j : ℕ) → bitAt (bitOr a b) j ≡ (bitAt a j || bitAt b j)
+pub bit-or : (a b j : ℕ) → bitAt (bitOr a b) j ≡ (bitAt a j || bitAt b j)
 unfolding bitAt
 bit-or a b j =
     ap (λ (x : ℕ). eqb (x % 2) 1) (or-shr a b j)
@@ -61,7 +61,7 @@ bit-other k j f =
       | no h ↦ let g : k < j = omega arith in rw (div-eq-of-lt (pow-lt g))
     ]
 
-bit-pow : (k j : ℕ) → bitAt (2 ^ k) j ≡ eqb j k
+pub bit-pow : (k j : ℕ) → bitAt (2 ^ k) j ≡ eqb j k
 bit-pow k j =
     elim (ℕ-discrete j k) [
       | yes e ↦ rw (eqb-yes e, e) (bit-same k)

@@ -1,9 +1,11 @@
 -- What the public calls promise. Each promise is a record over what was lent and what came back; `told` gives 01's number
 -- and place of an answer.
-use Prim.Native.Nat.{ℕ}
+use Prim.Native.Nat.{ℕ, _≤_}
 use mathlib.Core.Path.{_≡_}
 use mathlib.Core.List.{List}
+use lib.ListN.{length, take, drop}
 use Rattle.table.specs.Answers.{told}
+use Rattle.table.specs.declared.Refusal.{Refusal}
 use Rattle.table.specs.declared.Verdict.{Verdict}
 use Rattle.chart_check.specs.Answer.{chartAnswer}
 use Rattle.meaning.specs.Calls.{startChart, runChart}
@@ -14,6 +16,10 @@ use Rattle.flat_check.specs.Answer.{flatAnswer}
 use Rattle.flat_meaning.specs.Calls.{startFlat, runFlat}
 use Rattle.flat_engine.specs.Told.{flatRanTold}
 use Rattle.flat_engine.specs.declared.FlatRun.{FlatRun}
+use Rattle.flattening.specs.FlatTable.{FlatTableOf}
+use Rattle.flatten.specs.Wrote.{flattenTold, flattenAnswer}
+use Rattle.flatten.specs.declared.Flattening.{Flattening}
+use Rattle.flatten.specs.declared.Flattening.the-variants.{Done, Refused}
 
 -- check_chart. 01, Order: "the table by rising number and then lowest place".
 pub record ChartChecked (chart : List ℕ) (answer : Verdict) : Type 0 where
@@ -38,3 +44,18 @@ pub record FlatTableStarted (flat state : List ℕ) (answer : Verdict) (after : 
 -- run_flat: its answer with the counts, and every lent word afterwards. `runFlat` says all of it for anything at all.
 pub record FlatTableRan (flat state : List ℕ) (event : ℕ) (outputs : List ℕ) (answer : FlatRun) (state-after outputs-after : List ℕ) : Type 0 where
   pub answered : flatRanTold answer state-after outputs-after ≡ runFlat flat state event outputs
+
+-- The first n words of the room are a flat table of the chart, which `FlatTableOf` says; "words beyond the table written are
+-- unchanged".
+pub record FlatTableWritten (chart room : List ℕ) (n : ℕ) (after : List ℕ) : Type 0 where
+  pub fits : n ≤ length room
+  pub as-long : length after ≡ length room
+  pub beyond : drop n after ≡ drop n room
+  pub flat-table : FlatTableOf chart (take n after)
+
+-- flatten: 01, Order: the chart, then 31; "a refusal .. changes no lent word". Which words the table has is left open, and
+-- what it does is not: demand 3.
+pub record ChartFlattened (chart room : List ℕ) (answer : Flattening) (after : List ℕ) : Type 0 where
+  pub answered : flattenTold answer ≡ flattenAnswer chart (length room)
+  pub refused : (r : Refusal) → answer ≡ Refused r → after ≡ room
+  pub written : (n : ℕ) → answer ≡ Done n → FlatTableWritten chart room n after

@@ -4,6 +4,7 @@ use mathlib.Core.Path.{_≡_}
 use mathlib.Core.List.{List}
 use Rattle.words.specs.Logic.{Iff}
 use Rattle.table.specs.Check.{Judged}
+use Rattle.table.specs.declared.Refusal.{Refusal}
 use Rattle.table.specs.declared.Verdict.{Verdict}
 use Rattle.chart_rules.specs.Rules.{ChartRules}
 use Rattle.chart_check.specs.Answer.{chartRules, chartAnswer}
@@ -13,7 +14,10 @@ use Rattle.flat_rules.specs.Rules.{FlatRules}
 use Rattle.flat_check.specs.Answer.{flatRules, flatAnswer}
 use Rattle.flat_check.specs.RuleByRule.{RulesNumbered as FlatRulesNumbered}
 use Rattle.flat_engine.specs.declared.FlatRun.{FlatRun}
-use Rattle.olivrescum.specs.Promises.{ChartChecked, ChartStarted, ChartRan, FlatTableChecked, FlatTableStarted, FlatTableRan}
+use Rattle.flatten.specs.Wrote.{flattenTold}
+use Rattle.flatten.specs.declared.Flattening.{Flattening}
+use Rattle.flatten.specs.declared.Flattening.the-variants.{Refused}
+use Rattle.olivrescum.specs.Promises.{ChartChecked, ChartStarted, ChartRan, FlatTableChecked, FlatTableStarted, FlatTableRan, ChartFlattened}
 
 -- Demand 2: "A chart table is accepted exactly when it keeps 01's rules."
 abbrev pub AcceptedExactly : Type 0
@@ -74,3 +78,10 @@ FlatRunDeterminate =
     (flat state : List ℕ) (event : ℕ) (outputs : List ℕ) (a b : FlatRun) (state-a state-b outputs-a outputs-b : List ℕ)
     → FlatTableRan flat state event outputs a state-a outputs-a → FlatTableRan flat state event outputs b state-b outputs-b
     → (a ≡ b) × (state-a ≡ state-b) × (outputs-a ≡ outputs-b)
+
+-- Of flatten the promise leaves one answer, and for a refusal every word: "The one exception .. is the flat table's text".
+abbrev pub FlattenDeterminate : Type 0
+FlattenDeterminate =
+    (chart room : List ℕ) (a b : Flattening) (after-a after-b : List ℕ)
+    → ChartFlattened chart room a after-a → ChartFlattened chart room b after-b
+    → (flattenTold a ≡ flattenTold b) × ((r : Refusal) → a ≡ Refused r → (b ≡ Refused r) × (after-a ≡ after-b))

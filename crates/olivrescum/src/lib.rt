@@ -3,9 +3,10 @@
 mod theorems;
 
 ghost use Rattle.olivrescum.specs.Promises.{ChartChecked, ChartStarted, ChartRan};
-ghost use Rattle.olivrescum.specs.Promises.{FlatTableChecked, FlatTableStarted, FlatTableRan};
+ghost use Rattle.olivrescum.specs.Promises.{FlatTableChecked, FlatTableStarted, FlatTableRan, ChartFlattened};
 use engine::ChartRun;
 use flat_engine::FlatRun;
+use flatten::Flattening;
 use table::Verdict;
 
 // Is this a chart table?
@@ -28,6 +29,13 @@ pub fn run_chart(chart: &[u16], state: &mut [u16], event: u32, outputs: &mut [u1
     ensures { λ r. ⌜ ChartRan (now (chart .entry)) (now (state .entry)) event (now (outputs .entry)) r (now (state .exit)) (now (outputs .exit)) ⌝ }
 {
     engine::run(chart, state, event, outputs)
+}
+
+// Writes a flat table of the chart into the front of `room`: for every list of events it answers as the chart does.
+pub fn flatten(chart: &[u16], room: &mut [u16]) -> Flattening
+    ensures { λ r. ⌜ ChartFlattened (now (chart .entry)) (now (room .entry)) r (now (room .exit)) ⌝ }
+{
+    flatten::flatten(chart, room)
 }
 
 // Is this a flat table?

@@ -1,7 +1,7 @@
 // What is proved of the promises and of the definitions that they stand on. Each function does nothing: its contract is
 // the theorem. specs/Theorems.antt and specs/Examples.antt have the statements.
 ghost use Rattle.olivrescum.specs.Theorems.{AcceptedExactly, RefusedAtLowest, RuleByRule, CheckDeterminate, StartDeterminate, RunDeterminate};
-ghost use Rattle.olivrescum.specs.Theorems.{FlatAcceptedExactly, FlatRefusedAtLowest, FlatRuleByRule, FlatCheckDeterminate, FlatStartDeterminate, FlatRunDeterminate};
+ghost use Rattle.olivrescum.specs.Theorems.{FlatAcceptedExactly, FlatRefusedAtLowest, FlatRuleByRule, FlatCheckDeterminate, FlatStartDeterminate, FlatRunDeterminate, FlattenDeterminate};
 ghost use Rattle.olivrescum.specs.Examples.{Examples};
 
 // A chart table is accepted exactly when it keeps the rules.
@@ -67,4 +67,9 @@ pub fn flat_start_determinate()
 // What is promised of run_flat leaves it one answer, and one word for every word lent.
 pub fn flat_run_determinate()
     ensures { λ r. ⌜ FlatRunDeterminate ⌝ }
+{}
+
+// What is promised of flatten leaves it one answer, and where that is a refusal one word for every word lent.
+pub fn flatten_determinate()
+    ensures { λ r. ⌜ FlattenDeterminate ⌝ }
 {}

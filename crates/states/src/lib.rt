@@ -1,19 +1,46 @@
-// A set of numbers below 48: the states that are active or entered, the transitions that are taken. What it is made of is
-// known here alone. specs/Cells.antt says what a set shows.
+// A set of numbers below 48: the states that are active or entered, the transitions that are taken. It is kept as the bits of
+// one 64-bit number, number k in bit k; that is known here alone. specs/Cells.antt says what a set shows.
 ghost use mathlib.Core.Path.{_≡_};
 ghost use mathlib.Core.Bool.{false};
+ghost use Prim.Native.Nat.{_<_};
 ghost use lib.ListN.{getD, set};
-ghost use Rattle.states.specs.Cells.{cells, noCells};
+ghost use Rattle.marks.specs.Bits.{bitAt, setBit};
+ghost use Rattle.states.specs.Cells.{clearBit, cells, noCells};
 
 pub struct StateSet {
-    flags: [bool; 48],
+    bits: u64,
 }
 
 // Nothing.
 pub fn none() -> StateSet
     ensures { λ r. ⌜ cells r ≡ noCells ⌝ }
 {
-    StateSet { flags: [false; 48] }
+    StateSet { bits: 0 }
+}
+
+// Whether bit k is set.
+fn has_bit(m: u64, k: usize) -> bool
+    requires { ⌜ k < 48 ⌝ }
+    ensures { λ r. ⌜ r ≡ bitAt m k ⌝ }
+{
+    (m >> k) & 1 == 1
+}
+
+// The number with bit k set.
+fn with_bit(m: u64, k: usize) -> u64
+    requires { ⌜ k < 48 ⌝ }
+    ensures { λ r. ⌜ r ≡ setBit m k ⌝ }
+{
+    m | (1u64 << k)
+}
+
+// The number with bit k cleared.
+fn without_bit(m: u64, k: usize) -> u64
+    requires { ⌜ k < 48 ⌝ }
+    ensures { λ r. ⌜ r ≡ clearBit m k ⌝ }
+{
+    let b = 1u64 << k;
+    (m | b) ^ b
 }
 
 // Whether k is in the set.
@@ -21,8 +48,7 @@ pub fn has(s: StateSet, k: usize) -> bool
     ensures { λ r. ⌜ r ≡ getD (cells s) k false ⌝ }
 {
     if k < 48 {
-        let flags = s.flags;
-        return flags[k];
+        return has_bit(s.bits, k);
     }
     false
 }
@@ -31,9 +57,15 @@ pub fn has(s: StateSet, k: usize) -> bool
 pub fn with(s: StateSet, k: usize, b: bool) -> StateSet
     ensures { λ r. ⌜ cells r ≡ set (cells s) k b ⌝ }
 {
-    let mut r = s;
-    if k < 48 {
-        r.flags[k] = b;
+    if 48 <= k {
+        return s;
     }
-    r
+    if b {
+        return StateSet {
+            bits: with_bit(s.bits, k),
+        };
+    }
+    StateSet {
+        bits: without_bit(s.bits, k),
+    }
 }

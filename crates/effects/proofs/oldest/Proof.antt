@@ -4,7 +4,7 @@ use Rattle.effects.proofs.oldest.Statement.{statement}
 use Rattle.effects.proofs.oldest.Tie as tie
 
 returns : tie.Need-returns
-returns c = cc
+returns c = rw (c .trigger-of .ensures, c .before .word .ensures, c .before .before .wide .ensures .0)
 
 pub oldest-spec : {M : Type 1} → statement M
 oldest-spec = tie.close (tie.spec

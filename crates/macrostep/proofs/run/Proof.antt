@@ -1,79 +1,102 @@
--- `macrostep::run` meets its contract: a macrostep that stops leaves the outputs as they were, and one that ends is gone through
--- again to write them. Assumes nothing.
+-- `macrostep::run` meets its contract: before each time the outputs are as they were, and it is the first time, or what is meant
+-- ends well and all words are lent. Assumes nothing.
 use borrow.Author.Needs.{needs}
-use Prim.Native.Nat.{ℕ}
-use mathlib.Core.Path.{_≡_, sym, ap, _∙_}
-use mathlib.Core.Bool.{cond}
-use mathlib.Core.List.{List}
+use Prim.Native.Nat.{ℕ, _-_}
+use mathlib.Core.Path.{_≡_, refl, sym, ap, _∙_}
 use native.Mathlib.Omega.{arith}
 use denote.Ref.{now}
-use lib.Dec.{eqb}
 use lib.ListN.{length, take, drop}
-use Rattle.effects.specs.declared.Progress.{Progress}
-use Rattle.effects.specs.Run.{Machine}
-use Rattle.effects.specs.Work.{Going, going, turns, fresh}
-use Rattle.macrostep.specs.Forms.{machineOf, eventsOf}
-use Rattle.macrostep.proofs.Twice.{form-small, ends-stopped, ends-done}
+use lib.Seq.{length-take-le}
+use Rattle.effects.specs.Run.{macrostep}
+use Rattle.macrostep.specs.Forms.{machineOf, eventsOf, Ready}
+use Rattle.macrostep.proofs.Twice.{form-small, Before, untried, before-fits, last-less, last-ends, goes-again}
 use Rattle.macrostep.proofs.run.Statement.{statement}
 use Rattle.macrostep.proofs.run.Tie as tie
 
--- the second time begins with as many words as the first
-as-long : (events room : ℕ) (m : Machine) (e : ℕ) (state outs queue : List ℕ) (n : Progress) (k i : ℕ) (first g : Going) → k ≡ i
-    → g ≡ cond (eqb (n .outs) 0) first (turns 64 events room m e (going fresh (take k state) (drop k state) outs queue))
-    → g ≡ cond (eqb (n .outs) 0) first (turns 64 events room m e (going fresh (take i state) (drop i state) outs queue))
-as-long events room m e state outs queue n k i first g long p =
-    p ∙ ap (λ (x : ℕ). cond (eqb (n .outs) 0) first (turns 64 events room m e (going fresh (take x state) (drop x state) outs queue))) long
+abbrev Inv-loop : tie.InvT-loop
+Inv-loop form t own₀ state event room current₀ next₀ vars₀ outputs₀ queue₀ all lent₀ own current next vars outputs queue lent =
+    (length own ≡ length own₀) × (length current ≡ length current₀) × (length next ≡ length next₀) × (length vars ≡ length vars₀)
+    × (length queue ≡ length queue₀) × (outputs ≡ outputs₀) × Ready t own form
+    × Before outputs₀ lent (macrostep (eventsOf t) room (machineOf form t) (event .0) (take (length current₀) state) (drop (length current₀) state))
 
-returns : tie.Need-returns
-returns c =
-    let tried = c .before .before .before .before .before .before .before .before .before .before .before .before .before in
-    let start = c .before .before .before .before .before .before .before .before .before .before .before .before .before .before .before .before .before .before .before .before .before .before .before .before .before .before .before .before in
-    let s = start .args in
-    let t = now (s .t) in
-    let k = length (now (s .current)) in (
-      ends-stopped (eventsOf t) (s .room) (machineOf (s .form) t) (s .event .0) (take k (now (s .state))) (drop k (now (s .state)))
-          (now (s .outputs)) (form-small (s .form) t (now (s .own)) (start .pre .0)) (start .pre .2) _ (now (s .queue))
-          (start .pre .1 .queue-long) (tried .attempt .result) _ _ _ _ (tried .attempt .ensures .0)
-          (sym (c .before .has-stopped .ensures) ∙ c .if1 .taken),
-      tried .attempt .ensures .1,
-    )
+abbrev μ-loop : tie.MeasureT-loop
+μ-loop form t own₀ state event room current₀ next₀ vars₀ outputs₀ queue₀ all lent₀ own current next vars outputs queue lent =
+    length outputs₀ - lent
 
-give-outputs-requires : tie.Need-give-outputs-requires
-give-outputs-requires c κs =
-    let sized = c .before .before .before .before .before .before .before .before .before .before .before .before .before .before .before .before .before .before .before .before .before .before .before .before .before .before .before .before .before .before .before .before .before .before .pre .1 in
-    let current = c .before .before .before .before .before .before .before .before .before .before .before .before .before .before .before .before .current .given in (
-      c .before .before .before .before .before .before .before .before .before .before .before .before .before .before .before .before .before .before .before .attempt .ensures .1,
+loop-holds : tie.Need-loop-holds Inv-loop μ-loop
+loop-holds c = (refl, refl, refl, refl, refl, refl, c .before .before .before .before .before .before .before .before .pre .0, untried refl)
+
+slice-relend-prefix-attempt : tie.Need-slice-relend-prefix-attempt Inv-loop μ-loop
+slice-relend-prefix-attempt c =
+    let l = c .before .before .before .before .loop in
+    omega (arith, before-fits (l .inv .7), ap length (l .inv .5))
+
+slice-aggregate-attempt : tie.Need-slice-aggregate-attempt Inv-loop μ-loop
+slice-aggregate-attempt c =
+    let l = c .before .before .before .before .before .loop in
+    sym (length-take-le (l .lent) (l .outputs) (omega (arith, before-fits (l .inv .7), ap length (l .inv .5))))
+
+attempt-requires : tie.Need-attempt-requires Inv-loop μ-loop
+attempt-requires c κs =
+    let sized = c .before .before .before .before .before .before .before .before .before .before .before .before .before .before .before .pre .1 in
+    let i = c .before .before .before .before .before .before .loop .inv in (
+      i .6,
       record {
-        few = omega (arith, sized .few, current);
-        next-long = c .before .before .before .before .before .before .before .before .before .before .before .before .before .before .next .given ∙ sized .next-long ∙ sym current;
-        state-long = omega (arith, sized .state-long, current, c .before .before .before .before .before .before .before .before .before .before .before .before .vars .given);
-        queue-long = c .before .before .before .before .before .before .before .before .before .queue .given ∙ sized .queue-long;
+        few = omega (arith, sized .few, i .1);
+        next-long = i .2 ∙ sized .next-long ∙ sym (i .1);
+        state-long = omega (arith, sized .state-long, i .1, i .3);
+        queue-long = i .4 ∙ sized .queue-long;
       },
     )
 
-returns-2 : tie.Need-returns-2
-returns-2 c =
-    let given = c .before .before .before .before .before .before .before .before .before .before .before .before in
-    let tried = c .before .before .before .before .before .before .before .before .before .before .before .before .before .before .before .before .before .before .before .before .before .before .before .before .before .before .before .before .before .before .before .before in
-    let start = c .before .before .before .before .before .before .before .before .before .before .before .before .before .before .before .before .before .before .before .before .before .before .before .before .before .before .before .before .before .before .before .before .before .before .before .before .before .before .before .before .before .before .before .before .before .before .before in
-    let s = start .args in
+same-length-5 : tie.Need-same-length-5 Inv-loop μ-loop
+same-length-5 c = c .before .before .before .before .before .outputs .given .1 ∙ ap length (c .before .before .before .before .before .before .before .before .before .before .before .before .before .before .before .before .before .before .before .before .before .loop .inv .5)
+
+returns : tie.Need-returns Inv-loop μ-loop
+returns c =
+    let ran = c .before .before .before .before .before .before .before .before .before .before .before .before .before .before .attempt in
+    let l = c .before .before .before .before .before .before .before .before .before .before .before .before .before .before .before .before .before .before .before .before .before .loop in
+    let pre = c .before .before .before .before .before .before .before .before .before .before .before .before .before .before .before .before .before .before .before .before .before .before .before .before .before .before .before .before .before .before .pre in
+    let s = c .before .before .before .before .before .before .before .before .before .before .before .before .before .before .before .before .before .before .before .before .before .before .before .before .before .before .before .before .before .before .args in
+    let t = now (s .t) in (
+      last-ends (eventsOf t) (s .room) (machineOf (s .form) t) (s .event .0) (length (now (s .current))) (now (s .state)) (now (s .outputs))
+          (form-small (s .form) t (now (s .own)) (pre .0)) (pre .2) (length (l .current)) (l .lent) (l .outputs) (l .queue)
+          (l .inv .1) (l .inv .5) (l .inv .4 ∙ pre .1 .queue-long) (l .inv .7) (ran .result) _ _ _ _
+          (ran .ensures .0) (c .before .before .before .before .before .outputs .given .0) (sym (c .before .is-last .ensures) ∙ c .if1 .taken),
+      ran .ensures .1,
+    )
+
+loop-less : tie.Need-loop-less Inv-loop μ-loop
+loop-less c =
+    let l = c .before .before .before .before .before .before .before .before .before .before .before .before .before .before .before .before .before .before .before .before .before .loop in
+    last-less (now (c .before .before .before .before .before .before .before .before .before .before .before .before .before .before .before .before .before .before .before .before .before .before .before .before .before .before .before .before .before .before .args .outputs)) (l .lent) (c .before .before .before .before .before .before .before .before .before .before .before .before .before .before .attempt .result) (before-fits (l .inv .7)) (sym (c .before .is-last .ensures) ∙ c .if1 .left)
+
+loop-again : tie.Need-loop-again Inv-loop μ-loop
+loop-again c =
+    let ran = c .before .before .before .before .before .before .before .before .before .before .before .before .before .before .attempt in
+    let l = c .before .before .before .before .before .before .before .before .before .before .before .before .before .before .before .before .before .before .before .before .before .loop in
+    let pre = c .before .before .before .before .before .before .before .before .before .before .before .before .before .before .before .before .before .before .before .before .before .before .before .before .before .before .before .before .before .before .pre in
+    let s = c .before .before .before .before .before .before .before .before .before .before .before .before .before .before .before .before .before .before .before .before .before .before .before .before .before .before .before .before .before .before .args in
     let t = now (s .t) in
-    let state = now (s .state) in
-    let k = length (now (s .current)) in
-    let n = tried .attempt .result in (
-      ends-done (eventsOf t) (s .room) (machineOf (s .form) t) (s .event .0) (take k state) (drop k state)
-          (now (s .outputs)) (form-small (s .form) t (now (s .own)) (start .pre .0)) (start .pre .2) _ (now (s .queue))
-          (start .pre .1 .queue-long) n _ _ _ _ (tried .attempt .ensures .0)
-          (sym (c .before .before .before .before .before .before .before .before .before .before .before .before .before .before .before .before .before .before .before .before .has-stopped .ensures) ∙ c .before .before .before .before .before .before .before .before .before .before .before .before .before .before .before .before .before .before .before .if1 .left) (c .before .before .before .before .before .before .before .before .before .before .before .before .before .before .before .before .before .before .before .before .before .before .queue .given ∙ start .pre .1 .queue-long)
-          (given .give-outputs .result) _ _ _ _
-          (as-long (eventsOf t) (s .room) (machineOf (s .form) t) (s .event .0) state _ _ n _ k _ _ (c .before .before .before .before .before .before .before .before .before .before .before .before .before .before .before .before .before .before .before .before .before .before .before .before .before .before .before .before .before .current .given) (given .give-outputs .ensures .0)),
-      given .give-outputs .ensures .1,
+    let again =
+    goes-again (eventsOf t) (s .room) (machineOf (s .form) t) (s .event .0) (length (now (s .current))) (now (s .state)) (now (s .outputs))
+    (form-small (s .form) t (now (s .own)) (pre .0)) (pre .2) (length (l .current)) (l .lent) (l .outputs) (l .queue)
+    (l .inv .1) (l .inv .5) (l .inv .4 ∙ pre .1 .queue-long) (l .inv .7) (ran .result) _ _ _ _
+    (ran .ensures .0) (c .before .before .before .before .before .outputs .given .0) (sym (c .before .is-last .ensures) ∙ c .if1 .left) in (
+      c .before .before .before .before .before .before .before .before .before .before .before .before .before .own .given ∙ l .inv .0,
+      c .before .before .before .before .before .before .before .before .before .before .before .current .given ∙ l .inv .1,
+      c .before .before .before .before .before .before .before .before .before .next .given ∙ l .inv .2,
+      c .before .before .before .before .before .before .before .vars .given ∙ l .inv .3,
+      c .before .before .before .queue .given ∙ l .inv .4,
+      again .1,
+      ran .ensures .1,
+      again .0,
     )
 
 pub run-spec : {M : Type 1} → statement M
 run-spec =
     tie.close
     (tie.spec
-    (λ c. search needs) (λ c κs. search needs) (λ c κs. search needs) (λ c. search needs) (λ c. search needs)
-    (λ c. search needs) (λ c. search needs) (λ c. search needs) returns give-outputs-requires (λ c. search needs)
-    (λ c. search needs) (λ c. search needs) (λ c. search needs) (λ c. search needs) (λ c. search needs) returns-2)
+    Inv-loop μ-loop loop-holds slice-relend-prefix-attempt slice-aggregate-attempt attempt-requires (λ c κs. search needs)
+    (λ c. search needs) (λ c. search needs) (λ c. search needs) (λ c. search needs) same-length-5 (λ c. search needs)
+    returns loop-less loop-again)

@@ -1,17 +1,18 @@
--- `states::has` meets its contract: what it returns is what its callees say. Assumes nothing.
-use mathlib.Core.Path.{_≡_, sym}
-use mathlib.Core.Bool.{false}
-use native.Mathlib.Omega.{arith}
-use lib.ListN.{length, List·getD-eq-default}
+-- `states::has` meets its contract: below 48 it is the bit, and past that the set has no cell. Assumes nothing.
+use Rattle.states.specs.Cells.{cells}
+use Rattle.states.proofs.Bits.{cell-in, cell-out}
 use borrow.Author.Needs.{needs}
 use Rattle.states.proofs.has.Statement.{statement}
 use Rattle.states.proofs.has.Tie as tie
 
+returns : tie.Need-returns
+unfolding cells
+returns c = let s = c .before .before .args in cell-in (s .s .bits) (s .k) _ (c .before .if1 .taken) (c .has-bit .ensures)
+
 returns-2 : tie.Need-returns-2
-returns-2 c =
-    let h : length (c .before .args .s .flags) ≡ 48 = search needs in
-    sym (List·getD-eq-default (c .before .args .s .flags) false (omega arith))
+unfolding cells
+returns-2 c = let s = c .before .args in cell-out (s .s .bits) (s .k) (c .if1 .left)
 
 pub has-spec : {M : Type 1} → statement M
 has-spec = tie.close (tie.spec
-    (λ c. search needs) (λ c. search needs) returns-2)
+    (λ c κs. search needs) returns returns-2)

@@ -1,0 +1,98 @@
+-- `flatten::lay_table` meets its contract: the heading is laid, and behind it the other sections. Assumes nothing.
+use borrow.Author.Needs.{needs}
+use mathlib.Core.Path.{_∙_, sym}
+use native.Mathlib.Omega.{arith}
+use denote.Ref.{now}
+use Rattle.chart.specs.View.{view}
+use Rattle.flattening.specs.Flattened.{flattened}
+use Rattle.flattening.proofs.Turns.{entered-first}
+use Rattle.guard_literals.proofs.Laid.{laid-both}
+use Rattle.heading.proofs.Laid.{laid-as}
+use Rattle.flatten.proofs.Written.{encode-is, encode-long, encode-few, heading-few, heading-laid}
+use Rattle.flatten.proofs.lay_table.Statement.{statement}
+use Rattle.flatten.proofs.lay_table.Tie as tie
+
+taken-numbers-requires : tie.Need-taken-numbers-requires
+taken-numbers-requires c κs =
+    let active = c .before .before .before in
+    let start = active .before .before .before .before .before .before .before .before .before .before .before in
+    (start .pre, active .active-numbers .ensures .1 .1, active .active-numbers .ensures .0, search needs)
+
+sizes-of-requires : tie.Need-sizes-of-requires
+sizes-of-requires c κs =
+    let taken = c .before .before .before .before in
+    let active = taken .before .before .before .before in
+    let asked = active .before .before in
+    let ands = asked .before .before in
+    let ors = ands .before .before .before in
+    let start = ors .before .before .before .before in (
+      start .pre,
+      record {
+        asked-are = asked .asked-set .ensures;
+        ands-are = ands .and-ranks .ensures .1 .1;
+        actives-are = active .active-numbers .ensures .1 .1;
+        takens-are = taken .taken-numbers .ensures .1 .1;
+        first-is = taken .taken-numbers .ensures .0 ∙ sym (entered-first (view (now (start .args .t))));
+      },
+      ors .or-ranks .ensures .0,
+      ands .and-ranks .ensures .0,
+    )
+
+lay-heading-requires : tie.Need-lay-heading-requires
+lay-heading-requires c κs =
+    let sizes = c .before .before .before in
+    let ands = sizes .before .before .before .before .before .before .before .before .before .before .before .before .before in
+    let ors = ands .before .before .before in
+    let start = ors .before .before .before .before in
+    (start .pre, ors .or-ranks .ensures .1 .1, ands .and-ranks .ensures .1 .1, sizes .sizes-of .ensures)
+
+lay-sections-requires : tie.Need-lay-sections-requires
+lay-sections-requires c κs =
+    let first = c .before .before .before .before .before .before in
+    let taken = first .before .before .before .before .before .before .before .before .before in
+    let active = taken .before .before .before .before in
+    let asked = active .before .before in
+    let ands = asked .before .before in
+    let start = ands .before .before .before .before .before .before .before in (
+      start .pre,
+      record {
+        asked-are = asked .asked-set .ensures;
+        ands-are = ands .and-ranks .ensures .1 .1;
+        actives-are = active .active-numbers .ensures .1 .1;
+        takens-are = taken .taken-numbers .ensures .1 .1;
+        first-is = taken .taken-numbers .ensures .0 ∙ sym (entered-first (view (now (start .args .t))));
+      },
+      omega (arith, first .lay-heading .ensures .0, heading-few (start .pre)),
+    )
+
+cast-result : tie.Need-cast-result
+cast-result c =
+    let rest = c .before .before in
+    let first = rest .before .before .before .before .before .before .before in
+    let start = first .before .before .before .before .before .before .before .before .before .before .before .before .before .before .before .before .before .before .before .before .before .before .before .before in
+    let g = flattened (view (now (start .args .t))) in
+    let long = encode-long g (first .lay-heading .ensures .0) (rest .lay-sections .ensures .0) in
+    record { fits = omega (arith, long, encode-few (start .pre)) }
+
+returns : tie.Need-returns
+returns c =
+    let rest = c .before .before in
+    let first = rest .before .before .before .before .before .before .before in
+    let start = first .before .before .before .before .before .before .before .before .before .before .before .before .before .before .before .before .before .before .before .before .before .before .before .before in
+    let g = flattened (view (now (start .args .t))) in
+    let a = first .lay-heading .ensures in
+    let b = rest .lay-sections .ensures in
+    let all =
+    laid-as (encode-is g)
+    (laid-both (heading-laid g (now (start .args .room)) (a .0) (a .1)) (record { place = b .0; laid = b .1 })) in
+    (encode-long g (a .0) (b .0), all .laid)
+
+pub lay-table-spec : {M : Type 1} → statement M
+lay-table-spec =
+    tie.close
+    (tie.spec
+    (λ c. search needs) (λ c κs. search needs) (λ c. search needs) (λ c κs. search needs) (λ c κs. search needs)
+    (λ c. search needs) (λ c κs. search needs) (λ c. search needs) (λ c. search needs) taken-numbers-requires
+    (λ c. search needs) (λ c. search needs) (λ c. search needs) sizes-of-requires (λ c. search needs) (λ c. search needs)
+    lay-heading-requires (λ c. search needs) (λ c. search needs) (λ c. search needs) lay-sections-requires cast-result
+    (λ c. search needs) returns)

@@ -1,0 +1,2 @@
+-- `Sizes`: the counts of a flat table, and the places of its sections.
+pub mod Sizes

@@ -1,0 +1,2 @@
+-- Laws of words laid into others: `Lay`.
+pub mod Lay

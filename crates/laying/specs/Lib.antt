@@ -1,0 +1,2 @@
+-- `Lay`: words laid into others.
+pub mod Lay

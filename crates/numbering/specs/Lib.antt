@@ -1,0 +1,3 @@
+-- `Numbered`: numbers as cells of arrays. `Above`: the guard of what is above a state.
+pub mod Numbered
+pub mod Above

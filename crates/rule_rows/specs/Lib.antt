@@ -1,0 +1,2 @@
+-- `Ruled`: rules laid into a room.
+pub mod Ruled

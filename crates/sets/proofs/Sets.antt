@@ -1,0 +1,36 @@
+-- The tests by which sets are filled. Assumes nothing.
+use Prim.Native.Nat.{ℕ, _<_}
+use mathlib.Core.Path.{_≡_, refl, ap}
+use mathlib.Core.Bool.{Bool, true, false, _&&_}
+use mathlib.Core.List.{List}
+use lib.ListN.{getD}
+use Rattle.words.specs.Loops.{anyBelow}
+use Rattle.chart.specs.View.{Chart}
+use Rattle.chart.specs.Tree.{within}
+use Rattle.meaning.specs.Entered.{reached}
+use Rattle.flattening.specs.Flattened.{mayAt}
+use Rattle.pairs.proofs.Below.{any-same}
+
+module _ (c : Chart) where
+  -- a state that can be entered is told by one cell
+  pub same-may : (t j : ℕ) (a b : List Bool)
+      → getD a (c .parent (c .parent j)) false ≡ getD b (c .parent (c .parent j)) false → mayAt c t j a ≡ mayAt c t j b
+  unfolding mayAt reached
+  same-may t j a b e = rw e refl
+
+  -- what is above some state of a set
+  pub above-same : (s : List Bool) (p : ℕ → Bool) → ((k : ℕ) → k < c .states → getD s k false ≡ p k) → (j : ℕ)
+      → anyBelow (λ k. within c j k && getD s k false) (c .states) ≡ anyBelow (λ k. within c j k && p k) (c .states)
+  above-same s p same j = any-same (c .states) (λ k h. ap (λ (b : Bool). within c j k && b) (same k h))
+
+-- m, that a state can be entered, and a, that it is above one that comes, are asked first
+pub forks-not : (m d a : Bool) → (m && a) ≡ false → (m && (d && a)) ≡ false
+forks-not true true a e = e
+forks-not true false a e = refl
+forks-not false d a e = refl
+
+pub forks-so : (m d a : Bool) → (m && a) ≡ true → (m && (d && a)) ≡ d
+forks-so true true a e = e
+forks-so true false a e = refl
+forks-so false true a e = e
+forks-so false false a e = refl

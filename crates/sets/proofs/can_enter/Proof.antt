@@ -1,0 +1,43 @@
+-- `sets::can_enter` meets its contract: each branch is one of `mayAt`. Assumes nothing.
+use borrow.Author.Needs.{needs}
+use borrow.Author.Tests.{not-true, not-false}
+use mathlib.Core.Path.{_≡_, sym, _∙_}
+use mathlib.Core.Bool.{true, false}
+use denote.Ref.{now}
+use Rattle.chart.specs.View.{view}
+use Rattle.states.specs.Cells.{cells}
+use Rattle.meaning.specs.Scope.{scope}
+use Rattle.meaning.specs.Entered.{reached}
+use Rattle.flattening.specs.Flattened.{mayAt}
+use Rattle.sets.proofs.can_enter.Statement.{statement}
+use Rattle.sets.proofs.can_enter.Tie as tie
+
+returns : tie.Need-returns
+unfolding mayAt
+returns c = rw (sym (c .before .is-and .ensures) ∙ not-true (c .before .is-and .result) (c .if1 .taken))
+
+returns-2 : tie.Need-returns-2
+unfolding mayAt
+returns-2 c =
+    let s = c .before .before .before .before .before .args in
+    let v = view (now (s .t)) in
+    let and = not-false (c .before .before .before .is-and .result) (c .before .before .if1 .left) in
+    let out = not-true (c .before .is-reached .result) (c .if2 .taken) in
+    let not-reached : reached v (scope v (s .k)) (s .j) (cells (s .can)) ≡ false = cc in
+    rw (sym (c .before .before .before .is-and .ensures) ∙ and, not-reached)
+
+returns-3 : tie.Need-returns-3
+unfolding mayAt
+returns-3 c =
+    let s = c .before .before .before .before .before .before .args in
+    let v = view (now (s .t)) in
+    let and = not-false (c .before .before .before .before .is-and .result) (c .before .before .before .if1 .left) in
+    let in-reach = not-false (c .before .before .is-reached .result) (c .before .if2 .left) in
+    let is-reached : reached v (scope v (s .k)) (s .j) (cells (s .can)) ≡ true = cc in
+    rw (sym (c .before .before .before .before .is-and .ensures) ∙ and, is-reached) (c .can-choose .ensures)
+
+pub can-enter-spec : {M : Type 1} → statement M
+can-enter-spec =
+    tie.close
+    (tie.spec
+    (λ c κs. search needs) returns (λ c κs. search needs) returns-2 (λ c κs. search needs) returns-3)

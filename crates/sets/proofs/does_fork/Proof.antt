@@ -1,0 +1,48 @@
+-- `sets::does_fork` meets its contract: it makes the tests of `forks`, the cheap ones first. Assumes nothing.
+use borrow.Author.Needs.{needs}
+use borrow.Author.Tests.{not-true, not-false}
+use mathlib.Core.Path.{sym, ap₂, _∙_}
+use mathlib.Core.Bool.{_&&_}
+use denote.Ref.{now}
+use Rattle.words.specs.Loops.{anyBelow}
+use Rattle.chart.specs.View.{view}
+use Rattle.chart.specs.Tree.{within}
+use Rattle.flattening.specs.Flattened.{may, decides, comes, forks}
+use Rattle.sets.proofs.Sets.{forks-not, forks-so}
+use Rattle.sets.proofs.does_fork.Statement.{statement}
+use Rattle.sets.proofs.does_fork.Tie as tie
+
+returns : tie.Need-returns
+unfolding forks
+returns c =
+    let s = c .before .before .before .before .before .args in
+    let pre = c .before .before .before .before .before .pre in
+    let v = view (now (s .t)) in
+    let both = c .before .both in
+    let in-can = c .before .before .before .has .ensures ∙ pre .3 in
+    let in-need = c .before .before .has2 .ensures ∙ pre .4 in
+    let told = both .ensures ∙ ap₂ _&&_ in-can in-need in
+    sym (forks-not (may v (s .k) (s .j)) (decides v (s .k) (s .j))
+    (anyBelow (λ i. within v (s .j) i && comes v (s .k) i) (v .states))
+    (sym told ∙ not-true (both .result) (c .if1 .taken)))
+
+returns-2 : tie.Need-returns-2
+unfolding forks
+returns-2 c =
+    let s = c .before .before .before .before .before .before .args in
+    let pre = c .before .before .before .before .before .before .pre in
+    let v = view (now (s .t)) in
+    let both = c .before .before .both in
+    let in-can = c .before .before .before .before .has .ensures ∙ pre .3 in
+    let in-need = c .before .before .before .has2 .ensures ∙ pre .4 in
+    let told = both .ensures ∙ ap₂ _&&_ in-can in-need in
+    c .is-decided .ensures
+    ∙ sym (forks-so (may v (s .k) (s .j)) (decides v (s .k) (s .j))
+    (anyBelow (λ i. within v (s .j) i && comes v (s .k) i) (v .states))
+    (sym told ∙ not-false (both .result) (c .before .if1 .left)))
+
+pub does-fork-spec : {M : Type 1} → statement M
+does-fork-spec =
+    tie.close
+    (tie.spec
+    (λ c κs. search needs) (λ c κs. search needs) (λ c κs. search needs) returns (λ c κs. search needs) returns-2)

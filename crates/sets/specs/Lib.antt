@@ -1,0 +1,2 @@
+-- `Chosen`: which child of an or-state a transition can enter.
+pub mod Chosen

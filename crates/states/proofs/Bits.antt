@@ -1,0 +1,115 @@
+-- Laws of the bits of a set: a bit that is cleared, and one that is set or cleared as a cell of the set. Assumes nothing.
+use Prim.Native.Nat.{ℕ, zero, suc, _+_, _*_, _/_, _%_, _^_, _<_, _≤_}
+use native.Mathlib.Nat.{one-mul, add-zero, zero-add}
+use native.Mathlib.Omega.{arith}
+use mathlib.Core.Path.{_≡_, refl, sym, _∙_, ap, ap₂}
+use mathlib.Core.Bool.{Bool, false, true, not, _&&_, _||_, cond, Bool·beq}
+use mathlib.Core.List.{List, [], _∷_}
+use lib.Dec.{eqb, lit<}
+use lib.ListN.{length, getD, set, List·getD-eq-default}
+use lib.Seq.{set-out}
+use lib.Bits.{bitOr, bitXor, xor-shr, xor-mod}
+use lib.Pow.{shl-exact}
+use Rattle.words.specs.Loops.{many}
+use Rattle.words.proofs.Tests.{eqb-yes, eqb-no}
+use Rattle.marks.specs.Bits.{bitAt, setBit}
+use Rattle.marks.proofs.Bits.{bit-or, bit-pow}
+use Rattle.states.specs.Cells.{clearBit}
+
+-- the code's `1 << k`
+pub one-shl : (k : ℕ) → k < 48 → (1 * 2 ^ k) % 2 ^ 64 ≡ 2 ^ k
+one-shl k h = shl-exact 1 k 64 (lit< tt) (omega arith) ∙ one-mul _
+
+-- ---- a bit that is set, and one that is cleared
+xor-digit : (x y : ℕ) → x < 2 → y < 2 → eqb (bitXor x y) 1 ≡ not (Bool·beq (eqb x 1) (eqb y 1))
+xor-digit zero zero h k = refl
+xor-digit zero (suc zero) h k = refl
+xor-digit (suc zero) zero h k = refl
+xor-digit (suc zero) (suc zero) h k = refl
+xor-digit zero (suc (suc y)) h k = absurd (omega arith)
+xor-digit (suc zero) (suc (suc y)) h k = absurd (omega arith)
+xor-digit (suc (suc x)) y h k = absurd (omega arith)
+
+bit-xor : (a b j : ℕ) → bitAt (bitXor a b) j ≡ not (Bool·beq (bitAt a j) (bitAt b j))
+unfolding bitAt
+bit-xor a b j =
+    ap (λ (x : ℕ). eqb (x % 2) 1) (xor-shr a b j)
+    ∙ ap (λ (x : ℕ). eqb x 1) (xor-mod (a / 2 ^ j) (b / 2 ^ j) 1)
+    ∙ xor-digit (a / 2 ^ j % 2) (b / 2 ^ j % 2) (omega arith) (omega arith)
+
+set-digit : (a b : Bool) → (a || b) ≡ cond b true a
+set-digit true true = refl
+set-digit true false = refl
+set-digit false true = refl
+set-digit false false = refl
+
+clear-digit : (a b : Bool) → not (Bool·beq (a || b) b) ≡ cond b false a
+clear-digit true true = refl
+clear-digit true false = refl
+clear-digit false true = refl
+clear-digit false false = refl
+
+pub set-bit : (m k j : ℕ) → bitAt (setBit m k) j ≡ cond (eqb j k) true (bitAt m j)
+unfolding setBit
+set-bit m k j = bit-or m (2 ^ k) j ∙ rw (bit-pow k j) (set-digit (bitAt m j) (eqb j k))
+
+pub clear-bit : (m k j : ℕ) → bitAt (clearBit m k) j ≡ cond (eqb j k) false (bitAt m j)
+unfolding clearBit
+clear-bit m k j = bit-xor (bitOr m (2 ^ k)) (2 ^ k) j ∙ rw (bit-or m (2 ^ k) j, bit-pow k j) (clear-digit (bitAt m j) (eqb j k))
+
+-- ---- cells
+module _ {A : Type 0} where
+  pub many-length : (f : ℕ → A) (i n : ℕ) → length (many f i n) ≡ n
+  many-length f i zero = refl
+  many-length f i (suc n) = ap suc (many-length f (suc i) n)
+
+  pub many-at : (f : ℕ → A) (d : A) (i n k : ℕ) → k < n → getD (many f i n) k d ≡ f (i + k)
+  many-at f d i zero k h = absurd (omega arith)
+  many-at f d i (suc n) zero h = ap f (sym (add-zero i))
+  many-at f d i (suc n) (suc k) h =
+      let e : suc i + k ≡ i + suc k = omega arith in
+      many-at f d (suc i) n k (omega arith) ∙ ap f e
+
+  -- one cell of many becomes v
+  pub set-many : (f g : ℕ → A) (v : A) (i n k : ℕ) → k < n → g (i + k) ≡ v → ((j : ℕ) → (j ≡ i + k → ⊥) → g j ≡ f j)
+      → many g i n ≡ set (many f i n) k v
+  set-many f g v i zero k h e o = absurd (omega arith)
+  set-many f g v i (suc n) zero h e o =
+      ap₂ (λ (x : A) (l : List A). x ∷ l) (ap g (sym (add-zero i)) ∙ e) (rest (suc i) n (omega arith))
+    where
+      rest : (p m : ℕ) → i < p → many g p m ≡ many f p m
+      rest p zero l = refl
+      rest p (suc m) l = ap₂ (λ (x : A) (l : List A). x ∷ l) (o p (λ q. omega arith)) (rest (suc p) m (omega arith))
+  set-many f g v i (suc n) (suc k) h e o =
+      let z : suc i + k ≡ i + suc k = omega arith in
+      ap₂ (λ (x : A) (l : List A). x ∷ l) (o i (λ q. omega arith))
+      (set-many f g v (suc i) n k (omega arith) (ap g z ∙ e) (λ j q. o j (λ p. q (p ∙ sym z))))
+
+-- ---- the cells of a set whose bits are those of m
+module _ (m k : ℕ) where
+  pub cell-in : (b : Bool) → k < 48 → b ≡ bitAt m k → b ≡ getD (many (bitAt m) 0 48) k false
+  cell-in b h e = e ∙ ap (bitAt m) (sym (zero-add k)) ∙ sym (many-at (bitAt m) false 0 48 k h)
+
+  pub cell-out : 48 ≤ k → false ≡ getD (many (bitAt m) 0 48) k false
+  cell-out h =
+      let long : length (many (bitAt m) 0 48) ≤ k = omega (arith, many-length (bitAt m) 0 48) in
+      sym (List·getD-eq-default (many (bitAt m) 0 48) false long)
+
+  pub same-out : (b : Bool) → 48 ≤ k → many (bitAt m) 0 48 ≡ set (many (bitAt m) 0 48) k b
+  same-out b h =
+      let long : length (many (bitAt m) 0 48) ≤ k = omega (arith, many-length (bitAt m) 0 48) in
+      sym (set-out (many (bitAt m) 0 48) k b long)
+
+  -- one bit is another
+  turned : (r : ℕ) (b : Bool) → k < 48 → ((j : ℕ) → bitAt r j ≡ cond (eqb j k) b (bitAt m j))
+      → many (bitAt r) 0 48 ≡ set (many (bitAt m) 0 48) k b
+  turned r b h e =
+      let here : bitAt r (0 + k) ≡ b = ap (bitAt r) (zero-add k) ∙ e k ∙ rw (eqb-yes {m = k} refl) refl in
+      let others : (j : ℕ) → (j ≡ 0 + k → ⊥) → bitAt r j ≡ bitAt m j = λ j q. e j ∙ rw (eqb-no (λ p. q (p ∙ sym (zero-add k)))) refl in
+      set-many (bitAt m) (bitAt r) b 0 48 k h here others
+
+  pub cell-set : (r : ℕ) → k < 48 → r ≡ setBit m k → (b : Bool) → b ≡ true → many (bitAt r) 0 48 ≡ set (many (bitAt m) 0 48) k b
+  cell-set r h e b is = rw (e, is) (turned (setBit m k) true h (set-bit m k))
+
+  pub cell-clear : (r : ℕ) → k < 48 → r ≡ clearBit m k → (b : Bool) → b ≡ false → many (bitAt r) 0 48 ≡ set (many (bitAt m) 0 48) k b
+  cell-clear r h e b is = rw (e, is) (turned (clearBit m k) false h (clear-bit m k))

@@ -1,0 +1,14 @@
+-- `states::without_bit` meets its contract: the shift loses nothing. Assumes nothing.
+use Rattle.states.specs.Cells.{clearBit}
+use Rattle.states.proofs.Bits.{one-shl}
+use borrow.Author.Needs.{needs}
+use Rattle.states.proofs.without_bit.Statement.{statement}
+use Rattle.states.proofs.without_bit.Tie as tie
+
+returns : tie.Need-returns
+unfolding clearBit
+returns c = rw (one-shl (c .args .k) (c .pre))
+
+pub without-bit-spec : {M : Type 1} → statement M
+without-bit-spec = tie.close (tie.spec
+    (λ c. search needs) returns)
