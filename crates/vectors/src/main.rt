@@ -3,6 +3,7 @@
 // flattening. Each call has a function that runs it and prints its lines; `run_case` knows which call has which number.
 ghost use mathlib.Core.Path.{_≡_};
 ghost use Prim.Native.Nat.{_+_, _*_, _<_, _%_};
+use flatten::Flattening;
 use shell::Text;
 use table::Verdict;
 
@@ -153,12 +154,180 @@ fn put_flat_run(text: &mut Text, at: usize, run: flat_engine::FlatRun) -> usize 
 }
 
 // Reads over the two words an event that follow a flattening.
-fn skip_events(count: u32, words: &mut [u16]) {
-    shell::read_words(words, 0, 2 * count as usize);
+fn skip_events(count: u32) {
+    let mut pair = [0u16; 2];
+    shell::read_words(&mut pair, 0, 2 * count as usize);
+}
+
+// The words that are lent to a flattening are 42405 before it.
+fn fill(room: &mut [u16]) {
+    let mut i = 0;
+    while i < room.len() {
+        words::put(room, i, 42405);
+        i += 1;
+    }
+}
+
+// Call 7: flatten. Prints call, answer, place, and the flat check's answer on what is written; then a line for each event.
+fn flatten(case: Case, chart: &[u16], room: &mut [u16], text: &mut Text, at: usize) -> usize {
+    let words = shell::lent(case.room, room);
+    flatten_in(&mut room[..words], case.number, chart, text, at)
+}
+
+// The same in the words that are lent for the flat table.
+fn flatten_in(room: &mut [u16], events: u32, chart: &[u16], text: &mut Text, at: usize) -> usize {
+    fill(room);
+    let flattening = olivrescum::flatten(chart, room);
+    match flattening {
+        Flattening::Refused(refusal) => {
+            skip_events(events);
+            put_flattening(text, at, Verdict::Refused(refusal), 0)
+        }
+        Flattening::Done(count) => {
+            let words = shell::lent(count as usize, room);
+            run_both(events, chart, &room[..words], text, at)
+        }
+    }
+}
+
+// Puts what a flattening says, and the flat check's answer on the table written.
+fn put_flattening(text: &mut Text, at: usize, verdict: Verdict, checked: u32) -> usize {
+    let at = put_answer(text, at, 7, verdict);
+    let at = shell::put_field(text, at, checked);
+    shell::put_newline(text, at)
+}
+
+// Checks the flat table, starts both tables, and runs each event on both.
+fn run_both(events: u32, chart: &[u16], flat: &[u16], text: &mut Text, at: usize) -> usize {
+    let checked = shell::number_of(olivrescum::check_flat(flat));
+    let at = put_flattening(text, at, Verdict::Done, checked);
+    let machines = words::number(flat, flat::MACHINES);
+    let mut state = [0u16; 47];
+    let mut flat_state = [0u16; 47];
+    let words = shell::lent(machines + words::number(flat, flat::VARIABLES), &state);
+    start_both(
+        &mut state[..words],
+        &mut flat_state[..words],
+        events,
+        chart,
+        flat,
+        machines,
+        text,
+        at,
+    )
+}
+
+// Starts both tables, and runs each event on both.
+fn start_both(
+    state: &mut [u16],
+    flat_state: &mut [u16],
+    events: u32,
+    chart: &[u16],
+    flat: &[u16],
+    machines: usize,
+    text: &mut Text,
+    at: usize,
+) -> usize {
+    olivrescum::start_chart(chart, state);
+    olivrescum::start_flat(flat, flat_state);
+    run_pairs(events, chart, flat, state, flat_state, machines, text, at)
+}
+
+// Runs the events that follow, each on both tables, with the room that stands beside it.
+fn run_pairs(
+    events: u32,
+    chart: &[u16],
+    flat: &[u16],
+    state: &mut [u16],
+    flat_state: &mut [u16],
+    machines: usize,
+    text: &mut Text,
+    from: usize,
+) -> usize {
+    let mut at = from;
+    let mut left = events;
+    while 0 < left {
+        at = run_pair(chart, flat, state, flat_state, machines, text, at);
+        left -= 1;
+    }
+    at
+}
+
+// Reads an event and the room that stands beside it, and runs it on both tables.
+fn run_pair(
+    chart: &[u16],
+    flat: &[u16],
+    state: &mut [u16],
+    flat_state: &mut [u16],
+    machines: usize,
+    text: &mut Text,
+    at: usize,
+) -> usize {
+    let mut pair = [0u16; 2];
+    shell::read_words(&mut pair, 0, 2);
+    let event = words::number(&pair, 0) as u32;
+    let mut room = [42405u16; 600];
+    let mut flat_room = [42405u16; 600];
+    let words = shell::lent(words::number(&pair, 1), &room);
+    run_pair_in(
+        &mut room[..words],
+        &mut flat_room[..words],
+        event,
+        chart,
+        flat,
+        state,
+        flat_state,
+        machines,
+        text,
+        at,
+    )
+}
+
+// The same in the words that are lent for outputs. Prints what the flat run says, and whether it fired few enough rules.
+fn run_pair_in(
+    outputs: &mut [u16],
+    flat_outputs: &mut [u16],
+    event: u32,
+    chart: &[u16],
+    flat: &[u16],
+    state: &mut [u16],
+    flat_state: &mut [u16],
+    machines: usize,
+    text: &mut Text,
+    at: usize,
+) -> usize {
+    let run = olivrescum::run_chart(chart, state, event, outputs);
+    let flat_run = olivrescum::run_flat(flat, flat_state, event, flat_outputs);
+    let at = put_flat_event(text, at, flat_run, flat_outputs);
+    let at = shell::put_field(text, at, checksum_behind(flat_state, machines));
+    let few = is_within_bound(shell::counts_of(run), shell::flat_counts_of(flat_run));
+    let at = shell::put_field(text, at, few as u32);
+    shell::put_newline(text, at)
+}
+
+// Puts the line of an event as far as the outputs: a dot, answer, microsteps, number of outputs, and their checksum.
+fn put_flat_event(text: &mut Text, at: usize, run: flat_engine::FlatRun, outputs: &[u16]) -> usize {
+    let counts = shell::flat_counts_of(run);
+    let at = shell::put_byte(text, at, b'.');
+    let at = shell::put_field(text, at, shell::number_of(shell::flat_verdict_of(run)));
+    let at = shell::put_field(text, at, counts.microsteps);
+    let at = shell::put_field(text, at, counts.outputs);
+    shell::put_field(text, at, checksum(outputs))
+}
+
+// The checksum of the words behind the first `from`.
+fn checksum_behind(words: &[u16], from: usize) -> u32 {
+    let start = shell::lent(from, words);
+    checksum(&words[start..])
+}
+
+// Whether the rules fired number at most the states left and entered and the transitions taken.
+fn is_within_bound(counts: engine::Counts, flat: flat_engine::FlatCounts) -> bool {
+    flat.fired as u64 <= counts.left as u64 + counts.entered as u64 + counts.taken as u64
 }
 
 // Reads the words of a case, and runs its call. Of a call that is not known the words are read, and nothing is printed.
-fn run_case(case: Case, table: &mut [u16], text: &mut Text, at: usize) -> usize {
+fn run_case(case: Case, table: &mut [u16], room: &mut [u16], text: &mut Text, at: usize) -> usize {
     let table_words = shell::read_words(table, 0, case.table_words);
     let mut state = [0u16; 47];
     let state_words = shell::read_words(&mut state, 0, case.state_words);
@@ -182,10 +351,7 @@ fn run_case(case: Case, table: &mut [u16], text: &mut Text, at: usize) -> usize 
             text,
             at,
         ),
-        7 => {
-            skip_events(case.number, table);
-            at
-        }
+        7 => flatten(case, &table[..table_words], room, text, at),
         _ => at,
     }
 }
@@ -197,12 +363,12 @@ fn read_head(head: &mut [u16; 6]) -> bool {
 
 // Runs all cases of the input. A loop has to end, and nothing says that the input does: the cases are counted down from
 // a number that no run uses up.
-fn run_cases(table: &mut [u16], text: &mut Text) -> usize {
+fn run_cases(table: &mut [u16], room: &mut [u16], text: &mut Text) -> usize {
     let mut head = [0u16; 6];
     let mut at = 0;
     let mut cases = u64::MAX;
     while cases > 0 && read_head(&mut head) {
-        at = run_case(case_of(&head), table, text, at);
+        at = run_case(case_of(&head), table, room, text, at);
         cases -= 1;
     }
     at
@@ -211,6 +377,7 @@ fn run_cases(table: &mut [u16], text: &mut Text) -> usize {
 fn main() {
     let mut table = [0u16; 65535];
     let mut text = [0u8; 4096];
-    let at = run_cases(&mut table, &mut text);
+    let mut room = [0u16; 52170];
+    let at = run_cases(&mut table, &mut room, &mut text);
     shell::write_out(&text, at);
 }
