@@ -3,24 +3,36 @@ ghost use mathlib.Core.Path.{_≡_};
 ghost use mathlib.Core.Bool.{false};
 ghost use Prim.Native.Nat.{ℕ, _<_};
 ghost use lib.ListN.{getD};
+ghost use Rattle.words.specs.Loops.{any};
 ghost use Rattle.chart.specs.View.{view};
 ghost use Rattle.chart_rules.specs.Rules.{ChartRules};
 ghost use Rattle.states.specs.Cells.{cells};
-ghost use Rattle.meaning.specs.Scope.{scope};
+ghost use Rattle.meaning.specs.Scope.{scope, targetsOf};
 ghost use Rattle.meaning.specs.Entered.{reached, aimed, leads, chosen, enteredAt, entereds};
 ghost use Rattle.active.specs.Ranks.{Ranks};
+ghost use Rattle.entered.specs.Under.{under};
 use states::StateSet;
 
-// Whether a target of transition k is below o.
-pub fn is_aimed(t: &[u16], k: usize, o: usize) -> bool
+// Whether state j is below a or, where `itself` says so, a.
+fn is_under(t: &[u16], itself: bool, a: usize, j: usize) -> bool
+    ensures { λ r. ⌜ r ≡ under itself (view (now (t .entry))) a j ⌝ }
+{
+    if itself {
+        return chart::is_within(t, a, j);
+    }
+    active::is_beneath(t, a, j)
+}
+
+// Whether a target of transition k is.
+fn is_some_under(t: &[u16], itself: bool, k: usize, a: usize) -> bool
     requires { ⌜ k < 48 ⌝ }
-    ensures { λ r. ⌜ r ≡ aimed (view (now (t .entry))) k o ⌝ }
+    ensures { λ r. ⌜ r ≡ any (under itself (view (now (t .entry))) a) (targetsOf (view (now (t .entry))) k) ⌝ }
 {
     let at = chart::transition_at(t, k);
     let mut i = words::number(t, at + chart::AIMS);
     let mut left = words::number(t, at + chart::AIMS + 1);
     while 0 < left {
-        if active::is_beneath(t, o, chart::target_word(t, i)) {
+        if is_under(t, itself, a, chart::target_word(t, i)) {
             return true;
         }
         i += 1;
@@ -29,22 +41,20 @@ pub fn is_aimed(t: &[u16], k: usize, o: usize) -> bool
     false
 }
 
+// Whether a target of transition k is below o.
+pub fn is_aimed(t: &[u16], k: usize, o: usize) -> bool
+    requires { ⌜ k < 48 ⌝ }
+    ensures { λ r. ⌜ r ≡ aimed (view (now (t .entry))) k o ⌝ }
+{
+    is_some_under(t, false, k, o)
+}
+
 // Whether state j is a target of transition k, or above one.
 pub fn does_lead(t: &[u16], k: usize, j: usize) -> bool
     requires { ⌜ k < 48 ⌝ }
     ensures { λ r. ⌜ r ≡ leads (view (now (t .entry))) k j ⌝ }
 {
-    let at = chart::transition_at(t, k);
-    let mut i = words::number(t, at + chart::AIMS);
-    let mut left = words::number(t, at + chart::AIMS + 1);
-    while 0 < left {
-        if chart::is_within(t, j, chart::target_word(t, i)) {
-            return true;
-        }
-        i += 1;
-        left -= 1;
-    }
-    false
+    is_some_under(t, true, k, j)
 }
 
 // Whether j is the child that transition k chooses in the or-state above it.

@@ -1,18 +1,18 @@
 -- A state's words are states of their machines; such words and variables make a state, as at the start. Assumes nothing.
-use Prim.Native.Nat.{ℕ, zero, suc, _+_, _<_}
-use mathlib.Core.Path.{_≡_, refl, sym, ap, ap₂, _∙_}
+use Prim.Native.Nat.{ℕ, _+_, _<_}
+use mathlib.Core.Path.{_≡_, sym, ap₂, _∙_}
 use mathlib.Core.Bool.{true}
 use mathlib.Core.List.{List, _++_}
-use native.Mathlib.Nat.{not-suc-le-zero}
 use native.Mathlib.Omega.{arith}
 use lib.ListN.{length, getD, set, length-append, length-set, length-drop}
 use lib.Seq.{take-at, length-take-le}
 use lib.Dec.{eqb}
-use Rattle.words.specs.Loops.{many}
 use Rattle.words.proofs.Tests.{eqb-yes, eqb-eq, ltb-yes, and-i, and-l, and-r}
 use Rattle.words.proofs.Loops.{allBelow-at, allBelow-all}
+use Rattle.words.proofs.Many.{many-length, many-at}
 use Rattle.words.proofs.Lists.{set-either}
 use Rattle.effects.specs.Lent.{zeros}
+use Rattle.effects.proofs.Calls.{zeros-length}
 use Rattle.flat.specs.View.{Flat, flatView, stateOf?}
 use Rattle.flat_rules.specs.Rules.{GoodMachine}
 use Rattle.flat_meaning.specs.State.{flatLength, flatWordsOf, flatVarsOf, goodFlatWord?, flatStateOf?}
@@ -61,20 +61,6 @@ module _ (f : Flat) where
       (rw (take-at words vars (f .machines) (o .long)) (allBelow-all (f .machines) (o .own)))
 
 -- ---- the start
--- as many things as the count says, each at its place
-many-length : (g : ℕ → ℕ) (first count : ℕ) → length (many g first count) ≡ count
-many-length g first zero = refl
-many-length g first (suc count) = ap suc (many-length g (suc first) count)
-
-many-at : (g : ℕ → ℕ) (first count m : ℕ) → m < count → getD (many g first count) m 0 ≡ g (first + m)
-many-at g first zero m h = absurd (not-suc-le-zero h)
-many-at g first (suc count) zero h = ap g (omega arith)
-many-at g first (suc count) (suc m) h = many-at g (suc first) count m (omega arith) ∙ ap g (omega arith)
-
-zeros-length : (n : ℕ) → length (zeros n) ≡ n
-zeros-length zero = refl
-zeros-length (suc n) = ap suc (zeros-length n)
-
 module _ (f : Flat) (good : (m : ℕ) → m < f .machines → GoodMachine f m) where
   pub start-owned : Owned f (flatStartWords f)
   unfolding flatStartWords
@@ -82,7 +68,7 @@ module _ (f : Flat) (good : (m : ℕ) → m < f .machines → GoodMachine f m) w
     long = many-length (f .initial) 0 (f .machines);
     own = λ m h.
         let itself : 0 + m ≡ m = omega arith in
-        rw (many-at (f .initial) 0 (f .machines) m h, itself)
+        rw (many-at (f .initial) 0 0 (f .machines) m h, itself)
         (and-i (ltb-yes (f .initial m) (f .states) (good m h .a-state)) (eqb-yes (good m h .of-it)));
   }
 

@@ -15,11 +15,11 @@ use Rattle.flattening.proofs.Encoded.{guard-words, literal-words, item-words, r
 use Rattle.flattening.proofs.Machines.{machines-are, states-are, all-states}
 use Rattle.flattening.proofs.Bounds.{guards-bound, guards-few, literals-bound, literals-range, rules-bound, rules-few, total-in-room, room-few}
 use Rattle.laying.specs.Lay.{lay}
+use Rattle.laying.specs.Laid.{Laid}
+use Rattle.laying.proofs.Laid.{laid-as}
 use Rattle.guard_rows.specs.Parts.{literalsIn, part, moved}
 use Rattle.guard_rows.specs.declared.Pen.{Pen}
 use Rattle.heading.specs.Sizes.{heading}
-use Rattle.guard_literals.specs.Laid.{Laid}
-use Rattle.heading.proofs.Laid.{laid-as}
 use Rattle.flatten.specs.Numbers.{sections}
 
 -- ---- the guards' two sections

@@ -9,8 +9,9 @@ use native.Mathlib.Omega.{arith}
 use lib.ListN.{length, length-append, length-map}
 use lib.Dec.{eqb}
 use Rattle.words.specs.Loops.{joinUp, joinDown, joined, when, rank}
-use Rattle.words.proofs.Tests.{and-l, and-r, not-yes}
+use Rattle.words.proofs.Tests.{and-l, and-r}
 use Rattle.words.proofs.Loops.{tab-at, rank-most}
+use Rattle.words.proofs.Many.{many-length}
 use Rattle.words.proofs.Lists.{joined-append, joined-up, when-length, joinUp-length}
 use Rattle.words.proofs.Ranks.{rank-lt, rank-length}
 use Rattle.chart.specs.View.{Chart, view, isAnd}
@@ -25,13 +26,12 @@ use Rattle.meaning.specs.Scope.{scoped}
 use Rattle.meaning.specs.Taken.{literalsOf}
 use Rattle.meaning.specs.State.{orStates}
 use Rattle.meaning.proofs.Tree.{Tree, tree}
+use Rattle.meaning.proofs.Half.{ors-half}
 use Rattle.flattening.specs.Numbers.{andRank, andStates}
 use Rattle.flattening.specs.Flattened.{some?, sumBelow, grand, quits, asked, activeGuard, activeGuards, activeLiterals, flatLiteral, blocks, bare, takenGuard, takenGuards, takenLiterals, mayAt, may, comes, forks, above, enteredLiterals, enteredGuardsOf, allGuards, exitRule, ownRule, entryRule, rulesOf, flattened}
 use Rattle.flattening.specs.Room.{askedLiterals, guardsBound, literalsBound, rulesBound, roomNeeded}
 use Rattle.flattening.specs.Encoded.{allLiterals, total, header, encode}
-use Rattle.flattening.proofs.Sums.{sum-le, sum-same, sum-add, sum-numbers, joinUp-sum, rank-mono, rank-down, sum-rank, rank-into}
-use Rattle.flattening.proofs.Rows.{many-length}
-use Rattle.flattening.proofs.Children.{initial-is}
+use Rattle.flattening.proofs.Sums.{sum-le, sum-same, sum-add, sum-numbers, joinUp-sum, rank-mono, rank-down, sum-rank}
 use Rattle.flattening.proofs.Encoded.{total-is}
 use Rattle.flattening.proofs.Machines.{machines-are, states-are, all-states}
 use Rattle.flattening.proofs.Asked.{asked-and}
@@ -214,16 +214,8 @@ module _ (c : Chart) where
 
 -- ---- or-states and and-states of a tree
 module _ {c : Chart} (w : Tree c) where
-  or-is : (o : ℕ) → isOr c o ≡ true → isAnd c o ≡ false
-  or-is o e = not-yes (isAnd c o) e
-
-  -- each or-state has an and-state of its own: its initial child
   pub or-at-most-and : orStates c ≤ andStates c
-  unfolding orStates andStates
-  or-at-most-and =
-      rank-into (isOr c) (isAnd c) (c .initial) (c .states) (c .states) (λ o h e. w .initial-in o h (or-is o e))
-      (λ o h e. initial-is w o h (or-is o e) .is-and)
-      (λ o q h l d e s. sym (w .initial-up o h (or-is o d)) ∙ ap (c .parent) s ∙ w .initial-up q l (or-is q e))
+  or-at-most-and = omega (arith, ors-half w, all-states c)
 
   pub some-or : 1 ≤ orStates c
   unfolding orStates

@@ -8,6 +8,7 @@ use lib.ListN.{length, getD, take, drop, length-append}
 use lib.Seq.{getD-take, getD-drop, take-length}
 use lib.Dec.{lit<}
 use Rattle.words.specs.Loops.{many, joined}
+use Rattle.words.proofs.Many.{many-length, many-at}
 use Rattle.table.specs.Triple.{Triple, tripleAt}
 use Rattle.table.specs.Span.{Span, spanAt, Inside}
 use Rattle.flat.specs.View.{Flat, flatView}
@@ -19,7 +20,7 @@ use Rattle.flat_meaning.specs.State.{flatStartWords}
 use Rattle.flattening.specs.Tables.{Rule, Table}
 use Rattle.flattening.specs.Encoded.{literalTriple, tripleRow, literalRow, spanRow, ruleRow, spansFrom, allLiterals, statesAt, guardsAt, literalsAt, itemsAt, rulesAt, total, header, guardWords, literalWords, itemWords, ruleWords, encode}
 use Rattle.flattening.proofs.Laws.{part-at}
-use Rattle.flattening.proofs.Rows.{many-length, many-at, many-is, rows-length, Seen, seen-word, seen-rest, seen-row, list-at, list-in}
+use Rattle.flattening.proofs.Rows.{many-is, rows-length, Seen, seen-word, seen-rest, seen-row, list-at, list-in}
 
 -- A rule of a flat table's words.
 abbrev pub ruleIn : Flat → ℕ → Rule

@@ -5,13 +5,13 @@ use mathlib.Core.Path.{_≡_, ap}
 use mathlib.Core.Bool.{true, false, not}
 use lib.ListN.{length, getD}
 use Rattle.words.proofs.Tests.{not-yes}
-use Rattle.words.proofs.Ranks.{rank-lt, rank-length, rank-at}
+use Rattle.words.proofs.Ranks.{rank-lt, rank-both, rank-length, rank-at}
 use Rattle.chart.specs.View.{Chart, isAnd}
 use Rattle.meaning.specs.Active.{isOr, orRank}
 use Rattle.meaning.specs.State.{orStates}
 use Rattle.flattening.specs.Numbers.{andRank, andStates}
 use Rattle.flattening.specs.Flattened.{flattened}
-use Rattle.flattening.proofs.Sums.{rank-both, rank-onto}
+use Rattle.flattening.proofs.Sums.{rank-onto}
 
 module _ (c : Chart) where
   -- ---- how many there are

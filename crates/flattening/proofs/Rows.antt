@@ -12,15 +12,6 @@ use Rattle.flattening.proofs.Laws.{part-at}
 
 -- ---- the things that a function gives for a span of numbers
 module _ {A : Type 0} where
-  pub many-length : (f : ℕ → A) (first count : ℕ) → length (many f first count) ≡ count
-  many-length f first zero = refl
-  many-length f first (suc count) = ap suc (many-length f (suc first) count)
-
-  pub many-at : (f : ℕ → A) (d : A) (first count i : ℕ) → i < count → getD (many f first count) i d ≡ f (first + i)
-  many-at f d first zero i h = absurd (not-suc-le-zero h)
-  many-at f d first (suc count) zero h = ap f (omega arith)
-  many-at f d first (suc count) (suc i) h = many-at f d (suc first) count i (le-of-suc-le-suc h) ∙ ap f (omega arith)
-
   -- two functions that agree on the span
   pub many-cong : (f g : ℕ → A) (first count : ℕ) → ((i : ℕ) → i < first + count → f i ≡ g i)
       → many f first count ≡ many g first count

@@ -1,15 +1,14 @@
 -- Laws of sums, of the lengths of what loops gather, and of counting. Assumes nothing.
 use Prim.Native.Nat.{ℕ, zero, suc, _+_, _*_, _-_, _/_, _≤_, _<_, zero-le}
 use mathlib.Core.Path.{_≡_, refl, sym, ap, _∙_}
-use mathlib.Core.Logic.{_≢_}
-use mathlib.Core.Bool.{Bool, true, false, not, _&&_, cond}
+use mathlib.Core.Bool.{Bool, true, cond}
 use mathlib.Core.List.{List}
 use native.Mathlib.Nat.{not-suc-le-zero, le-refl}
 use native.Mathlib.Omega.{arith}
 use lib.ListN.{length, length-append}
 use lib.Dec.{eqb, ltb}
 use Rattle.words.specs.Loops.{joinUp, joinDown, when, rank}
-use Rattle.words.proofs.Tests.{by-bool, last-or, eqb-yes, eqb-no, eqb-eq, eqb-self, ltb-lt, ltb-ge, and-i, not-no, same-test}
+use Rattle.words.proofs.Tests.{by-bool, last-or, eqb-yes, eqb-eq, ltb-lt, ltb-ge, same-test}
 use Rattle.words.proofs.Ranks.{rank-inj}
 use Rattle.flattening.specs.Flattened.{sumBelow}
 
@@ -71,56 +70,10 @@ module _ {A : Type 0} (p : ℕ → Bool) (f : ℕ → A) where
       ∙ by-bool (p n) (λ e. rw e (omega (arith, rank-down n))) (λ e. rw e (omega (arith, rank-down n)))
 
 module _ (p : ℕ → Bool) where
-  -- those that pass and those that do not
-  pub rank-both : (n : ℕ) → rank (λ k. not (p k)) n + rank p n ≡ n
-  rank-both zero = refl
-  rank-both (suc n) = by-bool (p n) (λ e. rw e (omega (arith, rank-both n))) (λ e. rw e (omega (arith, rank-both n)))
-
   -- m for each number that passes
   pub sum-rank : (m n : ℕ) → sumBelow (λ k. cond (p k) m 0) n ≡ rank p n * m
   sum-rank m zero = omega arith
   sum-rank m (suc n) = by-bool (p n) (λ e. rw e (omega (arith, sum-rank m n))) (λ e. rw e (omega (arith, sum-rank m n)))
-
-  -- all that pass but y
-  abbrev but : ℕ → ℕ → Bool
-  but y k = p k && not (eqb k y)
-
-  but-all : (y n : ℕ) → n ≤ y → rank (but y) n ≡ rank p n
-  but-all y zero h = refl
-  but-all y (suc n) h =
-      let ih = but-all y n (omega arith) in
-      let d : eqb n y ≡ false = eqb-no {m = n} {n = y} (λ e. omega arith) in
-      rw d (by-bool (p n) (λ e. rw e (ap suc ih)) (λ e. rw e ih))
-
-  rank-but : (y n : ℕ) → y < n → p y ≡ true → suc (rank (but y) n) ≡ rank p n
-  rank-but y zero h e = absurd (not-suc-le-zero h)
-  rank-but y (suc n) h e =
-      last-or y n h
-      (λ l. let ih = rank-but y n l e in
-      let d : eqb n y ≡ false = eqb-no {m = n} {n = y} (λ e. omega arith) in
-      rw d (by-bool (p n) (λ b. rw b (ap suc ih)) (λ b. rw b ih)))
-      (λ q. rw (← q, eqb-self y, e) (ap suc (but-all y y (le-refl y))))
-
--- f takes what passes p to what passes q, and no two to one: then no more pass p than pass q
-pub rank-into : (p q : ℕ → Bool) (f : ℕ → ℕ) (n m : ℕ)
-    → ((k : ℕ) → k < n → p k ≡ true → f k < m)
-    → ((k : ℕ) → k < n → p k ≡ true → q (f k) ≡ true)
-    → ((i k : ℕ) → i < n → k < n → p i ≡ true → p k ≡ true → f i ≡ f k → i ≡ k)
-    → rank p n ≤ rank q m
-rank-into p q f zero m low into apart = zero-le
-rank-into p q f (suc n) m low into apart =
-    let lower : (k : ℕ) → k < n → k < suc n = λ k l. omega arith in
-    let h = le-refl (suc n) in
-    by-bool (p n)
-    (λ e. let other : (k : ℕ) → k < n → p k ≡ true → f k ≢ f n =
-    λ k l d s. let z = apart k n (lower k l) h d e s in omega arith in
-    let ih = rank-into p (but q (f n)) f n m (λ k l. low k (lower k l))
-    (λ k l d. and-i (into k (lower k l) d) (not-no (eqb (f k) (f n)) (eqb-no (other k l d))))
-    (λ i k l r. apart i k (lower i l) (lower k r)) in
-    rw e (omega (arith, ih, rank-but q (f n) m (low n h e) (into n h e))))
-    (λ e. rw e
-    (rank-into p q f n m (λ k l. low k (lower k l)) (λ k l. into k (lower k l))
-    (λ i k l r. apart i k (lower i l) (lower k r))))
 
 -- numbers that pass are equal where their ranks are
 pub rank-eqb : (p : ℕ → Bool) (i j : ℕ) → p i ≡ true → p j ≡ true → eqb (rank p i) (rank p j) ≡ eqb i j

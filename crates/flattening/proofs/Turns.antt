@@ -15,7 +15,7 @@ use Rattle.table.specs.Span.{Span}
 use Rattle.chart.specs.View.{Chart, isAnd}
 use Rattle.flat.specs.declared.FlatLiteral.{FlatLiteral}
 use Rattle.meaning.specs.Scope.{scoped}
-use Rattle.flattening.specs.Flattened.{asked, activeGuard, activeGuards, bare, takenGuard, takenGuards, mayAt, may, forks, enteredGuard, referAt, refers, above}
+use Rattle.flattening.specs.Flattened.{activeGuard, activeGuards, bare, takenGuard, takenGuards, mayAt, may, forks, enteredGuard, referAt, refers, above}
 use Rattle.flattening.specs.Encoded.{spansFrom}
 
 -- ---- rows and spans
@@ -49,10 +49,6 @@ spans-next i (h ∷ gs) g =
 
 -- ---- guards' numbers
 module _ (c : Chart) where
-  pub active-next : (j : ℕ) → activeGuard c (suc j) ≡ cond (asked c j) (suc (activeGuard c j)) (activeGuard c j)
-  unfolding activeGuard
-  active-next j = refl
-
   -- a transition's guard is its source's, or the next one
   pub taken-now : (t : ℕ)
       → takenGuard c t ≡ cond (bare c t) (activeGuard c (c .source t)) (activeGuards c + rank (λ s. not (bare c s)) t)

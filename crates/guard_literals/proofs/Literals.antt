@@ -27,8 +27,8 @@ use Rattle.flattening.proofs.Turns.{many-next}
 use Rattle.numbering.specs.Numbered.{Refers}
 use Rattle.numbering.specs.Above.{aboveIn}
 use Rattle.numbering.proofs.Above.{above-cells}
-use Rattle.guard_literals.specs.Laid.{Told}
-use Rattle.guard_literals.proofs.Laid.{rows-both}
+use Rattle.guard_literals.specs.Told.{Told}
+use Rattle.laying.proofs.Laid.{rows-both}
 
 named : (c : Chart) (kind a b : ℕ) → GoodLiteral c kind a b → namesAndState? c (literalOf kind a b) ≡ true
 unfolding literalOf

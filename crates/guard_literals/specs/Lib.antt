@@ -1,3 +1,3 @@
--- `Laid`: words, and literals, laid into a room; `Named`: what a literal may name.
-pub mod Laid
+-- `Told`: literals laid into a room; `Named`: what a literal may name.
+pub mod Told
 pub mod Named

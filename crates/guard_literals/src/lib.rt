@@ -13,7 +13,7 @@ ghost use Rattle.meaning.specs.Taken.{literalsOf};
 ghost use Rattle.flattening.specs.Flattened.{activeLiterals, flatLiteral, blocks, takenGuard, takenLiterals, enteredLiterals};
 ghost use Rattle.guard_literals.specs.Named.{namesAndState?};
 ghost use Rattle.numbering.specs.Numbered.{AndRanks, ActiveNumbers, TakenNumbers, Refers};
-ghost use Rattle.guard_literals.specs.Laid.{Told};
+ghost use Rattle.guard_literals.specs.Told.{Told};
 use chart::Literal;
 
 // "State a is current."

@@ -15,7 +15,7 @@ use Rattle.flattening.specs.Encoded.{literalRow, spanRow, spansFrom}
 use Rattle.flattening.proofs.Rows.{rows-length}
 use Rattle.laying.specs.Lay.{lay}
 use Rattle.laying.proofs.Lay.{lay-append, lay-length}
-use Rattle.guard_literals.specs.Laid.{Told}
+use Rattle.guard_literals.specs.Told.{Told}
 use Rattle.guard_rows.specs.declared.Pen.{Pen}
 use Rattle.guard_rows.specs.Parts.{literalsIn, part, moved}
 use Rattle.guard_rows.specs.Penned.{Penned, stepped, Within}

@@ -1,13 +1,14 @@
 -- The room that a chart's flat table needs; its header, machines, states and items, as they are laid. Assumes nothing.
 use Prim.Native.Nat.{ℕ, zero, suc, _+_, _*_, _-_, _/_, _≤_, _<_}
 use mathlib.Core.Path.{_≡_, refl, sym, ap, ap₂, _∙_}
+use mathlib.Core.Bool.{Bool, true, false}
 use mathlib.Core.List.{List, [], _∷_, _++_}
 use native.Mathlib.Omega.{arith}
 use lib.ListN.{length, getD}
 use Rattle.words.specs.Loops.{many, joined, joinUp, when}
 use Rattle.words.proofs.Tests.{by-bool, not-yes}
-use Rattle.words.proofs.Loops.{rank-most}
-use Rattle.words.proofs.Ranks.{rank-length}
+use Rattle.words.proofs.Many.{many-length}
+use Rattle.words.proofs.Lists.{when-length, joinUp-length}
 use Rattle.table.specs.Triple.{tripleAt}
 use Rattle.chart.specs.View.{Chart, view, isAnd}
 use Rattle.chart_rules.specs.Rules.{ChartRules}
@@ -18,17 +19,18 @@ use Rattle.flattening.specs.Numbers.{andRank, andStates}
 use Rattle.flattening.specs.Flattened.{flattened}
 use Rattle.flattening.specs.Room.{askedLiterals, guardsBound, literalsBound, rulesBound, roomNeeded}
 use Rattle.flattening.specs.Encoded.{tripleRow, itemWords, total, header}
-use Rattle.flattening.proofs.Rows.{many-length}
+use Rattle.flattening.proofs.Machines.{machines-are, all-states}
 use Rattle.flattening.proofs.Bounds.{total-in-room, room-few}
 use Rattle.active.specs.Ranks.{Ranks}
 use Rattle.numbering.specs.Numbered.{AndRanks}
 use Rattle.laying.specs.Lay.{lay}
 use Rattle.laying.proofs.Lay.{lay-append}
+use Rattle.laying.specs.Laid.{Laid}
+use Rattle.laying.proofs.Laid.{laid-as}
 use Rattle.heading.specs.declared.Sizes.{Sizes}
 use Rattle.heading.specs.declared.Places.{Places}
 use Rattle.heading.specs.Sizes.{SizesOf, PlacesOf}
-use Rattle.guard_literals.specs.Laid.{Laid}
-use Rattle.heading.proofs.Laid.{laid-as}
+use Rattle.heading.specs.Named.{of?, named}
 
 -- ---- items
 rows-words : (t : List ℕ) (base first count : ℕ)
@@ -142,23 +144,27 @@ module _ (c : Chart) where
   unfolding flattened
   owners-are = refl
 
-  -- at most one word for each state
-  pub initials-few : (k : ℕ) → length (joinUp initialOf k) ≤ k
-  initials-few k = omega (arith, rank-length (isOr c) (λ o. andRank c (c .initial o)) k, rank-most (isOr c) k)
+-- at most one word for each state
+pub named-few : (t : List ℕ) (ands : Bool) (r : ℕ) (numbers : List ℕ) (k : ℕ) → length (joinUp (named t ands r numbers) k) ≤ k
+named-few t ands r numbers k =
+    omega (arith, joinUp-length (named t ands r numbers) 1 (λ j. when-length (of? ands (view t) j) _) k)
 
-  pub owners-few : (k : ℕ) → length (joinUp ownerOf k) ≤ k
-  owners-few k = omega (arith, rank-length (isAnd c) (λ j. orRank c (c .parent j)) k, rank-most (isAnd c) k)
+pub initials-few : (c : Chart) → length (flattened c .initials) ≤ c .states
+initials-few c = omega (arith, machines-are c, all-states c)
 
 -- a word that is read for every state, and laid for some
-module _ {c : Chart} (w : Tree c) where
-  pub initial-word : (ands : List ℕ) → AndRanks c ands → (o : ℕ) → o < c .states
-      → when (isOr c o) (getD ands (c .initial o) 0) ≡ initialOf c o
+module _ (t : List ℕ) (w : Tree (view t)) where
+  abbrev c : Chart
+  c = view t
+
+  pub initial-word : (ands : List ℕ) → AndRanks c ands → (o : ℕ) → o < c .states → named t false 2 ands o ≡ initialOf c o
+  unfolding of?
   initial-word ands ranks o h =
       by-bool (isOr c o) (λ e. rw e (ap (λ (x : ℕ). x ∷ []) (ranks (c .initial o) (w .initial-in o h (not-yes (isAnd c o) e)))))
       (λ e. rw e refl)
 
-  pub owner-word : (ors : List ℕ) → Ranks c ors → (j : ℕ) → j < c .states
-      → when (isAnd c j) (getD ors (c .parent j) 0) ≡ ownerOf c j
+  pub owner-word : (ors : List ℕ) → Ranks c ors → (j : ℕ) → j < c .states → named t true 1 ors j ≡ ownerOf c j
+  unfolding of?
   owner-word ors ranks j h =
       by-bool (isAnd c j)
       (λ e. rw e (ap (λ (x : ℕ). x ∷ []) (ranks (c .parent j) (omega (arith, up-lt w j h e)))))

@@ -1,2 +1,3 @@
--- `Sizes`: the counts of a flat table, and the places of its sections.
+-- `Sizes`: the counts of a flat table, and the places of its sections. `Named`: numbers of the states that states name.
 pub mod Sizes
+pub mod Named

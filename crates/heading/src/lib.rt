@@ -4,7 +4,7 @@ ghost use mathlib.Core.Path.{_≡_};
 ghost use mathlib.Core.List.{[], _∷_};
 ghost use Prim.Native.Nat.{_+_, _-_, _*_, _/_, _<_, _≤_};
 ghost use lib.ListN.{length};
-ghost use Rattle.words.specs.Loops.{when};
+ghost use Rattle.words.specs.Loops.{joinUp, when};
 ghost use Rattle.chart.specs.View.{view};
 ghost use Rattle.chart_rules.specs.Rules.{ChartRules};
 ghost use Rattle.flattening.specs.Numbers.{andStates};
@@ -14,7 +14,9 @@ ghost use Rattle.flattening.specs.Encoded.{header, itemWords};
 ghost use Rattle.active.specs.Ranks.{Ranks};
 ghost use Rattle.numbering.specs.Numbered.{AndRanks};
 ghost use Rattle.laying.specs.Lay.{lay};
+ghost use Rattle.laying.specs.Laid.{Laid};
 ghost use Rattle.heading.specs.Sizes.{SizesOf, PlacesOf, heading};
+ghost use Rattle.heading.specs.Named.{of?, named};
 
 // How many machines, states, guards, literals and rules a flat table has.
 pub struct Sizes {
@@ -162,8 +164,7 @@ fn lay_header(t: &[u16], s: Sizes, room: &mut [u16])
 // A word more, where `is` says so.
 fn put_if(room: &mut [u16], at: usize, is: bool, word: u16) -> usize
     requires { ⌜ at < 1000 ⌝ }
-    ensures next { λ r. ⌜ r ≡ at + length (when is word) ⌝ }
-    ensures room { λ r. ⌜ now (room .exit) ≡ lay at (when is word) (now (room .entry)) ⌝ }
+    ensures { λ r. ⌜ Laid at (when is word) (now (room .entry)) r (now (room .exit)) ⌝ }
 {
     if is {
         words::put(room, at, word);
@@ -172,38 +173,54 @@ fn put_if(room: &mut [u16], at: usize, is: bool, word: u16) -> usize
     at
 }
 
-// The machines' section: the flat state of each or-state's initial child.
-fn lay_initials(t: &[u16], ands: &[u16], room: &mut [u16], at: usize) -> usize
-    requires { ⌜ ChartRules (now t) × AndRanks (view (now t)) (now ands) × (at < 900) ⌝ }
-    ensures next { λ r. ⌜ r ≡ at + length (flattened (view (now (t .entry))) .initials) ⌝ }
-    ensures room { λ r. ⌜ now (room .exit) ≡ lay at (flattened (view (now (t .entry))) .initials) (now (room .entry)) ⌝ }
+// Whether state k is of the and-states or, where `ands` does not hold, of the or-states.
+fn is_of(t: &[u16], ands: bool, k: usize) -> bool
+    requires { ⌜ k < 1000000 ⌝ }
+    ensures { λ r. ⌜ r ≡ of? ands (view (now (t .entry))) k ⌝ }
 {
-    let n = words::number(t, chart::STATES);
-    let mut next = at;
-    let mut o = 0;
-    while o < n {
-        let initial = chart::state_word(t, o, chart::INITIAL);
-        next = put_if(room, next, !chart::is_and(t, o), words::word(ands, initial));
-        o += 1;
+    if ands {
+        return chart::is_and(t, k);
     }
-    next
+    !chart::is_and(t, k)
 }
 
-// The states' section: the machine of each and-state's parent.
-fn lay_owners(t: &[u16], ors: &[u16], room: &mut [u16], at: usize) -> usize
-    requires { ⌜ ChartRules (now t) × Ranks (view (now t)) (now ors) × (at < 900) ⌝ }
-    ensures next { λ r. ⌜ r ≡ at + length (flattened (view (now (t .entry))) .owners) ⌝ }
-    ensures room { λ r. ⌜ now (room .exit) ≡ lay at (flattened (view (now (t .entry))) .owners) (now (room .entry)) ⌝ }
+// For each of the and-states, or of the or-states, the number of the state that its word `field` names.
+fn lay_named(
+    t: &[u16],
+    ands: bool,
+    field: usize,
+    numbers: &[u16],
+    room: &mut [u16],
+    at: usize,
+) -> usize
+    requires { ⌜ ChartRules (now t) × (field < 7) × (at < 900) ⌝ }
+    ensures { λ r. ⌜ Laid at (joinUp (named (now (t .entry)) ands field (now (numbers .entry))) (view (now (t .entry)) .states)) (now (room .entry)) r (now (room .exit)) ⌝ }
 {
     let n = words::number(t, chart::STATES);
     let mut next = at;
     let mut j = 0;
     while j < n {
-        let up = chart::state_word(t, j, chart::PARENT);
-        next = put_if(room, next, chart::is_and(t, j), words::word(ors, up));
+        let other = chart::state_word(t, j, field);
+        next = put_if(room, next, is_of(t, ands, j), words::word(numbers, other));
         j += 1;
     }
     next
+}
+
+// The machines' section: the flat state of each or-state's initial child.
+fn lay_initials(t: &[u16], ands: &[u16], room: &mut [u16], at: usize) -> usize
+    requires { ⌜ ChartRules (now t) × AndRanks (view (now t)) (now ands) × (at < 900) ⌝ }
+    ensures { λ r. ⌜ Laid at (flattened (view (now (t .entry))) .initials) (now (room .entry)) r (now (room .exit)) ⌝ }
+{
+    lay_named(t, false, chart::INITIAL, ands, room, at)
+}
+
+// The states' section: the machine of each and-state's parent.
+fn lay_owners(t: &[u16], ors: &[u16], room: &mut [u16], at: usize) -> usize
+    requires { ⌜ ChartRules (now t) × Ranks (view (now t)) (now ors) × (at < 900) ⌝ }
+    ensures { λ r. ⌜ Laid at (flattened (view (now (t .entry))) .owners) (now (room .entry)) r (now (room .exit)) ⌝ }
+{
+    lay_named(t, true, chart::PARENT, ors, room, at)
 }
 
 // The header, the machines and the states.

@@ -1,2 +1,3 @@
--- `Lay`: words laid into others.
+-- `Lay`: words laid into others; `Laid`: what a call that lays words leaves.
 pub mod Lay
+pub mod Laid

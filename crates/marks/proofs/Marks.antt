@@ -1,19 +1,18 @@
 -- Laws of marks: what is marked once a number is, and marks that are made number by number as the cells of a `tab` are.
 -- Assumes nothing.
-use Prim.Native.Nat.{ℕ, suc, _+_, _*_, _/_, _%_, _<_}
+use Prim.Native.Nat.{ℕ, _+_, _*_, _/_, _%_, _<_}
 use mathlib.Core.Path.{_≡_, refl, sym, ap, _∙_}
 use mathlib.Core.Bool.{Bool, true, false, _||_, cond}
 use mathlib.Core.List.{List}
 use mathlib.Core.Logic.{_≢_}
-use native.Mathlib.Decide.{decLt, ℕ-discrete}
-use native.Mathlib.Numerals.{add-one}
+use native.Mathlib.Decide.{ℕ-discrete}
 use native.Mathlib.Omega.{arith}
 use lib.Dec.{eqb}
 use lib.ListN.{length, getD, List·getD-eq-default}
 use lib.Seq.{getD-set-same, getD-set-other}
 use Rattle.words.specs.Loops.{tab}
 use Rattle.words.proofs.Tests.{eqb-yes, eqb-no, eqb-self}
-use Rattle.words.proofs.Loops.{tab-length, tab-at}
+use Rattle.words.proofs.Loops.{tab-length, tab-next, tab-off}
 use Rattle.marks.specs.Bits.{bitAt, setBit, marked, withMark}
 use Rattle.marks.proofs.Bits.{bit-zero, bit-set}
 
@@ -60,19 +59,6 @@ module _ (g : ℕ → List Bool → Bool) where
   pub filled-none : (marks : List ℕ) → ((i : ℕ) → getD marks i 0 ≡ 0) → Filled g 0 marks
   filled-none marks z j = marked-none marks z j
 
-  -- cell k, and the others, where one cell more is made
-  next-at : (k : ℕ) → getD (tab g (k + 1)) k false ≡ g k (tab g k)
-  next-at k = rw (add-one k) (tab-at g false (suc k) k (omega arith))
-
-  next-off : (k j : ℕ) → j ≢ k → getD (tab g k) j false ≡ getD (tab g (k + 1)) j false
-  next-off k j f =
-      rw (add-one k) (elim (decLt j k) [
-        | yes h ↦ tab-at g false k j h ∙ sym (tab-at g false (suc k) j (omega arith))
-        | no h ↦
-            List·getD-eq-default (tab g k) false (omega (arith, tab-length g k))
-            ∙ sym (List·getD-eq-default (tab g (suc k)) false (omega (arith, tab-length g (suc k))))
-      ])
-
   module _ (k : ℕ) (marks : List ℕ) (f : Filled g k marks) where
     -- number k is not marked yet
     not-yet : marked marks k ≡ false
@@ -89,6 +75,6 @@ module _ (g : ℕ → List Bool → Bool) where
     pub filled-next : (b : Bool) → k < 16 * length marks → b ≡ g k (tab g k) → Filled g (k + 1) (cond b (withMark k marks) marks)
     filled-next b l e j =
         elim (ℕ-discrete j k) [
-          | yes q ↦ rw q (marked-at b l ∙ e ∙ sym (next-at k))
-          | no q ↦ marked-off b j l q ∙ f j ∙ next-off k j q
+          | yes q ↦ rw q (marked-at b l ∙ e ∙ sym (tab-next g false k))
+          | no q ↦ marked-off b j l q ∙ f j ∙ tab-off g false k j q
         ]

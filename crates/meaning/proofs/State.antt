@@ -1,6 +1,6 @@
 -- A state's words are children of their or-states; the states that they make active are a configuration; the start is a
 -- state. Assumes nothing.
-use Prim.Native.Nat.{ℕ, zero, suc, _+_, _<_}
+use Prim.Native.Nat.{ℕ, _+_, _<_}
 use mathlib.Core.Path.{_≡_, refl, sym, ap, ap₂, _∙_}
 use mathlib.Core.Bool.{true, false, not, _||_}
 use mathlib.Core.List.{List, _++_}
@@ -14,6 +14,7 @@ use Rattle.chart.specs.View.{Chart, isAnd, IsOr, childOf?}
 use Rattle.meaning.specs.Active.{isOr, orRank, child, active}
 use Rattle.meaning.specs.Entered.{keepsWord}
 use Rattle.effects.specs.Lent.{zeros}
+use Rattle.effects.proofs.Calls.{zeros-length}
 use Rattle.meaning.specs.State.{orStates, stateLength, wordsOf, goodWord?, stateOf?, startWords, startState}
 use Rattle.meaning.specs.Theorems.{OneChild, Configuration, Children, StateHasChildren, Configured, StartIsState}
 use Rattle.meaning.proofs.Tree.{Tree, tree, child-told, child-and}
@@ -91,10 +92,6 @@ module _ {c : Chart} (w : Tree c) where
   pub start-length : length (startWords c) ≡ orStates c
   unfolding startWords orStates
   start-length = rank-length (isOr c) (c .initial) (c .states)
-
-  zeros-length : (n : ℕ) → length (zeros n) ≡ n
-  zeros-length zero = refl
-  zeros-length (suc n) = ap suc (zeros-length n)
 
   start-state : stateOf? c (startState c) ≡ true
   unfolding startState

@@ -5,8 +5,8 @@ use mathlib.Core.Bool.{Bool, true, false, not, _&&_, cond}
 use mathlib.Core.List.{List, [], _∷_, _++_}
 use lib.ListN.{getD}
 use lib.Dec.{eqb}
-use Rattle.words.specs.Loops.{tab, joinUp, all, allBelow, when}
-use Rattle.words.proofs.Lists.{joinUp-cong, joinDown-cong}
+use Rattle.words.specs.Loops.{tab, joinUp, allBelow, when}
+use Rattle.words.proofs.Lists.{joinUp-cong, joinDown-cong, all-same}
 use Rattle.effects.specs.Run.{Step}
 use Rattle.effects.specs.Work.{Going, doSteps}
 use Rattle.chart.specs.View.{Chart, isAnd}
@@ -21,10 +21,6 @@ tab-same-rule : {A : Type 0} (g h : ℕ → List A → A) (n : ℕ) → ((k : �
 tab-same-rule g h zero e = refl
 tab-same-rule {A} g h (suc n) e =
     ap (λ (t : List A). t ++ (g n t ∷ [])) (tab-same-rule g h n e) ∙ ap (λ (x : A). tab h n ++ (x ∷ [])) (e n (tab h n))
-
-all-same : {A : Type 0} (p q : A → Bool) → ((x : A) → p x ≡ q x) → (xs : List A) → all p xs ≡ all q xs
-all-same p q h [] = refl
-all-same p q h (x ∷ xs) = ap₂ _&&_ (h x) (all-same p q h xs)
 
 module _ (c : Chart) (x y : List Bool) (same : (j : ℕ) → getD x j false ≡ getD y j false) where
   holds-same : (vars : List ℕ) (l : Literal) → holds x vars l ≡ holds y vars l

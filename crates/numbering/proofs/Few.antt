@@ -1,34 +1,33 @@
 -- How large the numbers are, and how they go on. Assumes nothing.
-use Prim.Native.Nat.{ℕ, _+_, _*_, _≤_}
+use Prim.Native.Nat.{ℕ, zero, suc, _+_, _*_, _≤_}
 use mathlib.Core.Path.{_≡_, refl}
 use mathlib.Core.Bool.{Bool, not, cond}
 use native.Mathlib.Omega.{arith}
 use Rattle.words.specs.Loops.{rank}
 use Rattle.words.proofs.Tests.{by-bool}
 use Rattle.words.proofs.Loops.{rank-most}
-use Rattle.chart.specs.View.{Chart, isAnd}
-use Rattle.flattening.specs.Numbers.{andRank}
+use Rattle.chart.specs.View.{Chart}
+use Rattle.states.specs.Cells.{cells}
+use Rattle.states.specs.declared.StateSet.{StateSet}
 use Rattle.flattening.specs.Flattened.{asked, activeGuard, activeGuards, bare, takenGuard, takenGuards, forks, enteredGuard}
 use Rattle.flattening.proofs.Sums.{sum-le, sum-same}
+use Rattle.numbering.specs.declared.Which.the-variants.{These}
+use Rattle.numbering.specs.Numbered.{AskedStates}
+use Rattle.numbering.specs.Which.{numbered?}
 use Rattle.numbering.proofs.Cells.{Counts}
 
 module _ (c : Chart) where
   -- ---- flat states and guards of active states
-  pub and-next : (j : ℕ) → Counts (andRank c) j (isAnd c j)
-  unfolding andRank
-  and-next j = refl
-
-  pub and-most : (j : ℕ) → andRank c j ≤ j
-  unfolding andRank
-  and-most j = rank-most (isAnd c) j
-
-  pub active-most : (j : ℕ) → activeGuard c j ≤ j
-  unfolding activeGuard
-  active-most j = rank-most (asked c) j
+  -- the states asked for, told by a set
+  pub active-same : (set : StateSet) → AskedStates c (cells set) → (j : ℕ) → j ≤ c .states
+      → rank (numbered? c (These set)) j ≡ activeGuard c j
+  unfolding numbered? activeGuard
+  active-same set e zero h = refl
+  active-same set e (suc j) h = rw (e j h, active-same set e j (omega arith)) refl
 
   pub actives-most : activeGuards c ≤ c .states
-  unfolding activeGuards
-  actives-most = active-most (c .states)
+  unfolding activeGuards activeGuard
+  actives-most = rank-most (asked c) (c .states)
 
   -- ---- guards of taken transitions: the number of the next new one, at transition k
   unfoldable pub takenNext : ℕ → ℕ

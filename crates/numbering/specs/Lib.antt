@@ -1,3 +1,4 @@
--- `Numbered`: numbers as cells of arrays. `Above`: the guard of what is above a state.
+-- `Numbered`: numbers as cells of arrays. `Which`: the states that are numbered. `Above`: the guard of what is above a state.
 pub mod Numbered
+pub mod Which
 pub mod Above

@@ -5,6 +5,7 @@ ghost use mathlib.Core.Path.{_≡_};
 ghost use mathlib.Core.Bool.{cond};
 ghost use Prim.Native.Nat.{suc, _+_, _<_, _≤_};
 ghost use lib.ListN.{length, set};
+ghost use Rattle.words.specs.Loops.{rank};
 ghost use Rattle.chart.specs.View.{view, isAnd};
 ghost use Rattle.chart_rules.specs.Rules.{ChartRules};
 ghost use Rattle.states.specs.Cells.{cells};
@@ -13,6 +14,7 @@ ghost use Rattle.flattening.specs.Numbers.{andStates};
 ghost use Rattle.flattening.specs.Flattened.{activeGuard, activeGuards, takenGuards, enteredGuard};
 ghost use Rattle.numbering.specs.Numbered.{AskedStates, ForkStates, AndRanks, ActiveNumbers, TakenNumbers, Refers, EntriesOf};
 ghost use Rattle.numbering.specs.Above.{aboveIn};
+ghost use Rattle.numbering.specs.Which.{numbered?, NumberedStates};
 use states::StateSet;
 
 // What is worked out of a transition: its scope, the states that it enters by a rule, those with a guard of their own, and the
@@ -43,6 +45,41 @@ fn put_number(numbers: &mut [u16], i: usize, x: usize)
     words::put(numbers, i, x as u16);
 }
 
+// The states that get a number: the and-states, or those of a set.
+enum Which {
+    Ands,
+    These(StateSet),
+}
+
+// Whether state j is one of them.
+fn is_numbered(t: &[u16], which: Which, j: usize) -> bool
+    requires { ⌜ j < 1000000 ⌝ }
+    ensures { λ r. ⌜ r ≡ numbered? (view (now (t .entry))) which j ⌝ }
+{
+    match which {
+        Which::Ands => chart::is_and(t, j),
+        Which::These(set) => states::has(set, j),
+    }
+}
+
+// How many of them are before each state; and how many there are.
+fn number_states(t: &[u16], which: Which, numbers: &mut [u16]) -> usize
+    requires { ⌜ ChartRules (now t) × (48 ≤ length (now numbers)) ⌝ }
+    ensures is { λ r. ⌜ r ≡ rank (numbered? (view (now (t .entry))) which) (view (now (t .entry)) .states) ⌝ }
+    ensures few { λ r. ⌜ r ≤ 48 ⌝ }
+    ensures numbers { λ r. ⌜ NumberedStates (view (now (t .entry))) which (now (numbers .exit)) ⌝ }
+{
+    let n = words::number(t, chart::STATES);
+    let mut r = 0;
+    let mut j = 0;
+    while j < n {
+        put_number(numbers, j, r);
+        r = counted(r, is_numbered(t, which, j));
+        j += 1;
+    }
+    r
+}
+
 // The flat states of the and-states, by their numbers; and how many there are.
 pub fn and_ranks(t: &[u16], ands: &mut [u16]) -> usize
     requires { ⌜ ChartRules (now t) × (48 ≤ length (now ands)) ⌝ }
@@ -50,15 +87,7 @@ pub fn and_ranks(t: &[u16], ands: &mut [u16]) -> usize
     ensures few { λ r. ⌜ r ≤ 48 ⌝ }
     ensures ranks { λ r. ⌜ AndRanks (view (now (t .entry))) (now (ands .exit)) ⌝ }
 {
-    let n = words::number(t, chart::STATES);
-    let mut r = 0;
-    let mut j = 0;
-    while j < n {
-        put_number(ands, j, r);
-        r = counted(r, chart::is_and(t, j));
-        j += 1;
-    }
-    r
+    number_states(t, Which::Ands, ands)
 }
 
 // The guards of active states, of which `asked` has those that are asked for; and how many there are.
@@ -68,15 +97,7 @@ pub fn active_numbers(t: &[u16], asked: StateSet, actives: &mut [u16]) -> usize
     ensures few { λ r. ⌜ r ≤ 48 ⌝ }
     ensures numbers { λ r. ⌜ ActiveNumbers (view (now (t .entry))) (now (actives .exit)) ⌝ }
 {
-    let n = words::number(t, chart::STATES);
-    let mut r = 0;
-    let mut j = 0;
-    while j < n {
-        put_number(actives, j, r);
-        r = counted(r, states::has(asked, j));
-        j += 1;
-    }
-    r
+    number_states(t, Which::These(asked), actives)
 }
 
 // The guard of transition k's being taken: if it is bare that of its source, else the next one.

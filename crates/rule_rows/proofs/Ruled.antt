@@ -7,7 +7,7 @@ use Rattle.words.specs.Loops.{joinDown}
 use Rattle.flattening.specs.Tables.{Rule}
 use Rattle.flattening.specs.Encoded.{ruleRow}
 use Rattle.laying.specs.Lay.{lay}
-use Rattle.guard_literals.proofs.Laid.{laid-none, rows-both}
+use Rattle.laying.proofs.Laid.{laid-none, rows-both}
 use Rattle.rule_rows.specs.Ruled.{Ruled}
 
 pub one-rule : (r : Rule) {at next : ℕ} {ws old new : List ℕ} → ws ≡ ruleRow r → next ≡ at + 6 → new ≡ lay at ws old

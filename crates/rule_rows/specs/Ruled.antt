@@ -9,7 +9,7 @@ use Rattle.chart.specs.View.{Chart}
 use Rattle.flattening.specs.Tables.{Rule}
 use Rattle.flattening.specs.Flattened.{some?, quits, exitRule, ownRule, comes, entryRule}
 use Rattle.flattening.specs.Encoded.{ruleRow}
-use Rattle.guard_literals.specs.Laid.{Laid}
+use Rattle.laying.specs.Laid.{Laid}
 
 -- The words of rules, laid from `at` on.
 abbrev pub Ruled : ℕ → List Rule → List ℕ → ℕ → List ℕ → Type 0

@@ -12,6 +12,7 @@ use lib.Bits.{bitOr, bitXor, xor-shr, xor-mod}
 use lib.Pow.{shl-exact}
 use Rattle.words.specs.Loops.{many}
 use Rattle.words.proofs.Tests.{eqb-yes, eqb-no}
+use Rattle.words.proofs.Many.{many-length, many-at}
 use Rattle.marks.specs.Bits.{bitAt, setBit}
 use Rattle.marks.proofs.Bits.{bit-or, bit-pow}
 use Rattle.states.specs.Cells.{clearBit}
@@ -59,17 +60,6 @@ clear-bit m k j = bit-xor (bitOr m (2 ^ k)) (2 ^ k) j ∙ rw (bit-or m (2 ^ k) j
 
 -- ---- cells
 module _ {A : Type 0} where
-  pub many-length : (f : ℕ → A) (i n : ℕ) → length (many f i n) ≡ n
-  many-length f i zero = refl
-  many-length f i (suc n) = ap suc (many-length f (suc i) n)
-
-  pub many-at : (f : ℕ → A) (d : A) (i n k : ℕ) → k < n → getD (many f i n) k d ≡ f (i + k)
-  many-at f d i zero k h = absurd (omega arith)
-  many-at f d i (suc n) zero h = ap f (sym (add-zero i))
-  many-at f d i (suc n) (suc k) h =
-      let e : suc i + k ≡ i + suc k = omega arith in
-      many-at f d (suc i) n k (omega arith) ∙ ap f e
-
   -- one cell of many becomes v
   pub set-many : (f g : ℕ → A) (v : A) (i n k : ℕ) → k < n → g (i + k) ≡ v → ((j : ℕ) → (j ≡ i + k → ⊥) → g j ≡ f j)
       → many g i n ≡ set (many f i n) k v

@@ -1,15 +1,14 @@
 -- A set that is filled number by number has the cells of a `tab`. Assumes nothing.
 use Prim.Native.Nat.{ℕ, zero, suc, _+_, _<_}
-use mathlib.Core.Path.{_≡_, refl, sym, ap, _∙_}
+use mathlib.Core.Path.{_≡_, refl, sym, _∙_}
 use mathlib.Core.Bool.{Bool, false}
-use mathlib.Core.List.{List, [], _∷_}
-use native.Mathlib.Decide.{decLt, ℕ-discrete}
-use native.Mathlib.Numerals.{add-one}
+use mathlib.Core.List.{List}
+use native.Mathlib.Decide.{ℕ-discrete}
 use native.Mathlib.Omega.{arith}
-use lib.ListN.{length, getD, set, length-set, List·getD-eq-default}
+use lib.ListN.{length, getD, set, length-set}
 use lib.Seq.{getD-set-same, getD-set-other}
 use Rattle.words.specs.Loops.{tab, many}
-use Rattle.words.proofs.Loops.{tab-length, tab-at}
+use Rattle.words.proofs.Loops.{tab-next, tab-off}
 use Rattle.states.specs.Cells.{noCells}
 
 -- s has the cells that g makes, as far as k
@@ -27,17 +26,9 @@ module _ (g : ℕ → List Bool → Bool) where
 
   pub filled-next : (k : ℕ) (s : List Bool) (v : Bool) → k < length s → v ≡ g k (tab g k) → Filled g k s → Filled g (k + 1) (set s k v)
   filled-next k s v l e f j =
-      rw (add-one k) (elim (ℕ-discrete j k) [
-        | yes q ↦ rw q (getD-set-same s k v false l ∙ e ∙ sym (tab-at g false (suc k) k (omega arith)))
-        | no q ↦ getD-set-other s k j v false q ∙ f j ∙ go j q
-      ])
-    where
-      go : (j : ℕ) → (j ≡ k → ⊥) → getD (tab g k) j false ≡ getD (tab g (suc k)) j false
-      go j q = elim (decLt j k) [
-        | yes h ↦ tab-at g false k j h ∙ sym (tab-at g false (suc k) j (omega arith))
-        | no h ↦
-            List·getD-eq-default (tab g k) false (omega (arith, tab-length g k))
-            ∙ sym (List·getD-eq-default (tab g (suc k)) false (omega (arith, tab-length g (suc k))))
+      elim (ℕ-discrete j k) [
+        | yes q ↦ rw q (getD-set-same s k v false l ∙ e ∙ sym (tab-next g false k))
+        | no q ↦ getD-set-other s k j v false q ∙ f j ∙ tab-off g false k j q
       ]
 
 -- the cells of a set that is being filled: all 48, and as far as k those that g makes

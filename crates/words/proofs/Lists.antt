@@ -1,7 +1,7 @@
 -- Laws of lists that loops gather: when two are equal, how long they are, and what their members are. Assumes nothing.
 use mathlib.Core.Path.{_≡_, refl, sym, ap, ap₂, _∙_, subst}
 use mathlib.Core.Logic.{inl, inr}
-use mathlib.Core.Bool.{Bool, true, false, true≢false}
+use mathlib.Core.Bool.{Bool, true, false, _&&_, true≢false}
 use mathlib.Core.List.{List, [], _∷_, _++_, append-assoc, List·Memᴰ, List·Memᴰ·head, List·Memᴰ·tail, List·Memᴰ·not-nil}
 use mathlib.Core.List.{List·Memᴰ·append-cases, List·Memᴰ·cases-cons, List·Memᴰ·eq-of-singleton, Memᴰ·append-left}
 use mathlib.Core.List.{Memᴰ·append-right}
@@ -134,6 +134,11 @@ module _ {A B : Type 0} {b : B} (f : A → List B) where
   joined-mem (List·Memᴰ·tail {x = y} {xs = xs} t) m = Memᴰ·append-right (f y) (joined-mem t m)
 
 -- ---- tests of members
+-- two tests that agree
+pub all-same : {A : Type 0} (p q : A → Bool) → ((x : A) → p x ≡ q x) → (xs : List A) → all p xs ≡ all q xs
+all-same p q h [] = refl
+all-same p q h (x ∷ xs) = ap₂ _&&_ (h x) (all-same p q h xs)
+
 module _ {A : Type 0} (p : A → Bool) where
   pub all-mem : {x : A} {xs : List A} → List·Memᴰ x xs → all p xs ≡ true → p x ≡ true
   all-mem (List·Memᴰ·head {x = y} {xs = xs} e) q = rw e (and-l (p y) (all p xs) q)

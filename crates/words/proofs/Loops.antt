@@ -1,12 +1,14 @@
 -- Laws of the loops of specs/Loops.antt. Assumes nothing.
 use mathlib.Core.Path.{_≡_, refl, sym, ap, ap₂, _∙_}
+use mathlib.Core.Logic.{_≢_}
 use mathlib.Core.Bool.{Bool, true, false, not, _&&_, _||_, cond}
 use mathlib.Core.List.{List, [], _∷_, _++_}
 use Prim.Native.Nat.{ℕ, zero, suc, _+_, _-_, _≤_, _<_}
 use native.Mathlib.Nat.{not-suc-le-zero, le-refl}
 use native.Mathlib.Numerals.{add-one}
+use native.Mathlib.Decide.{decLt}
 use native.Mathlib.Omega.{arith}
-use lib.ListN.{length, getD, length-append, List·getD-append}
+use lib.ListN.{length, getD, length-append, List·getD-append, List·getD-eq-default}
 use lib.Seq.{getD-append-seam}
 use Rattle.words.specs.Loops.{tab, many, all, any, allBelow, anyBelow, rank, greatest, firstBad}
 use Rattle.words.proofs.Tests.{by-bool, last-or, and-l, and-r, and-i, or-l, or-r, clash}
@@ -31,6 +33,19 @@ module _ {A : Type 0} (g : ℕ → List A → A) where
   -- a cell that two tables both have
   pub tab-same : (d : A) (m n k : ℕ) → k < m → k < n → getD (tab g m) k d ≡ getD (tab g n) k d
   tab-same d m n k h l = tab-at d m k h ∙ sym (tab-at d n k l)
+
+  -- cell k, and the others, where one cell more is made
+  pub tab-next : (d : A) (k : ℕ) → getD (tab g (k + 1)) k d ≡ g k (tab g k)
+  tab-next d k = rw (add-one k) (tab-last d k)
+
+  pub tab-off : (d : A) (k j : ℕ) → j ≢ k → getD (tab g k) j d ≡ getD (tab g (k + 1)) j d
+  tab-off d k j f =
+      elim (decLt j k) [
+        | yes h ↦ tab-same d k (k + 1) j h (omega arith)
+        | no h ↦
+            List·getD-eq-default (tab g k) d (omega (arith, tab-length k))
+            ∙ sym (List·getD-eq-default (tab g (k + 1)) d (omega (arith, tab-length (k + 1))))
+      ]
 
 -- ---- tests of all numbers below a bound
 pub allBelow-at : (p : ℕ → Bool) (n k : ℕ) → allBelow p n ≡ true → k < n → p k ≡ true

@@ -1,12 +1,26 @@
--- Laws of `all` and `any` over the things that a function gives for a span of numbers, for a loop that goes through them.
--- Assumes nothing.
+-- Laws of the things that a function gives for a span of numbers: how many they are and where each stands; and of `all` and
+-- `any` over them, for a loop that goes through them. Assumes nothing.
 use Prim.Native.Nat.{ℕ, zero, suc, _+_, _-_, _<_, _≤_}
 use mathlib.Core.Path.{_≡_, refl, ap, _∙_}
 use mathlib.Core.Bool.{Bool, true, false, _&&_, _||_}
+use native.Mathlib.Nat.{not-suc-le-zero, le-of-suc-le-suc}
 use native.Mathlib.Numerals.{add-one}
 use native.Mathlib.Omega.{arith}
+use lib.ListN.{length, getD}
 use Rattle.words.specs.Loops.{many, all, any}
 
+-- ---- as many as the count says, each at its place
+module _ {A : Type 0} where
+  pub many-length : (f : ℕ → A) (first count : ℕ) → length (many f first count) ≡ count
+  many-length f first zero = refl
+  many-length f first (suc count) = ap suc (many-length f (suc first) count)
+
+  pub many-at : (f : ℕ → A) (d : A) (first count i : ℕ) → i < count → getD (many f first count) i d ≡ f (first + i)
+  many-at f d first zero i h = absurd (not-suc-le-zero h)
+  many-at f d first (suc count) zero h = ap f (omega arith)
+  many-at f d first (suc count) (suc i) h = many-at f d (suc first) count i (le-of-suc-le-suc h) ∙ ap f (omega arith)
+
+-- ---- all and any
 module _ {A : Type 0} (p : A → Bool) (f : ℕ → A) (i left : ℕ) where
   -- the next number, where some are left
   one-left : 0 < left → left ≡ suc (left - 1)

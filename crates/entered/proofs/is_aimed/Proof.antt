@@ -1,63 +1,13 @@
--- `entered::is_aimed` meets its contract: what is asked of all targets is asked of those left. Assumes nothing.
+-- `entered::is_aimed` meets its contract: `aimed` asks it of some target. Assumes nothing.
 use borrow.Author.Needs.{needs}
-use Prim.Native.Nat.{ℕ, _+_, _<_}
-use mathlib.Core.Path.{_≡_, sym, ap₂, _∙_}
-use mathlib.Core.Bool.{true, false}
-use native.Mathlib.Omega.{arith}
-use denote.Ref.{now}
-use Rattle.words.specs.Loops.{many, any}
-use Rattle.words.proofs.Many.{any-here, any-later, any-end}
-use Rattle.chart.specs.View.{view}
-use Rattle.meaning.specs.Scope.{beneath, targetsOf}
 use Rattle.meaning.specs.Entered.{aimed}
+use Rattle.entered.specs.Under.{under}
 use Rattle.entered.proofs.is_aimed.Statement.{statement}
 use Rattle.entered.proofs.is_aimed.Tie as tie
 
-abbrev Inv-loop : tie.InvT-loop
-Inv-loop t k o at i₀ left₀ i left =
-    (i + left < 131072) × (aimed (view t) k o ≡ any (beneath (view t) o) (many (view t .target) i left))
-
-abbrev μ-loop : tie.MeasureT-loop
-μ-loop t k o at i₀ left₀ i left = left
-
-loop-holds : tie.Need-loop-holds Inv-loop μ-loop
-unfolding aimed targetsOf
-loop-holds c =
-    let s = c .before .before .before .before .args in
-    let v = view (now (s .t)) in
-    let first : v .aims (s .k) .first ≡ c .before .number .result = cc in
-    let count : v .aims (s .k) .count ≡ c .number2 .result = cc in
-    (omega arith, ap₂ (λ (i n : ℕ). any (beneath v (s .o)) (many (v .target) i n)) first count)
-
-returns : tie.Need-returns Inv-loop μ-loop
-returns c =
-    let s = c .before .before .before .before .before .before .before .before .before .args in
-    let l = c .before .before .before .before .loop in
-    let v = view (now (s .t)) in
-    let more = c .before .before .before .loop-test .taken in
-    let here : beneath v (s .o) (v .target (l .i)) ≡ true = cc in
-    sym (l .inv .1 ∙ any-here (beneath v (s .o)) (v .target) (l .i) (l .left) more here)
-
-loop-again : tie.Need-loop-again Inv-loop μ-loop
-loop-again c =
-    let s = c .before .before .before .before .before .before .before .before .before .args in
-    let l = c .before .before .before .before .loop in
-    let v = view (now (s .t)) in
-    let more = c .before .before .before .loop-test .taken in
-    let not-here : beneath v (s .o) (v .target (l .i)) ≡ false = cc in
-    (omega arith, l .inv .1 ∙ any-later (beneath v (s .o)) (v .target) (l .i) (l .left) more not-here)
-
-returns-2 : tie.Need-returns-2 Inv-loop μ-loop
-returns-2 c =
-    let s = c .before .before .before .before .before .before .args in
-    let l = c .before .loop in
-    let v = view (now (s .t)) in
-    sym (l .inv .1 ∙ any-end (beneath v (s .o)) (v .target) (l .i) (l .left) (c .loop-test .left))
+returns : tie.Need-returns
+unfolding aimed under
+returns c = c .is-some-under .ensures
 
 pub is-aimed-spec : {M : Type 1} → statement M
-is-aimed-spec =
-    tie.close
-    (tie.spec
-    Inv-loop μ-loop (λ c κs. search needs) (λ c. search needs) (λ c κs. search needs) (λ c. search needs)
-    (λ c. search needs) (λ c κs. search needs) loop-holds (λ c κs. omega arith) (λ c κs. search needs)
-    returns (λ c. omega arith) (λ c. omega arith) (λ c. omega arith) loop-again returns-2)
+is-aimed-spec = tie.close (tie.spec (λ c κs. search needs) returns)

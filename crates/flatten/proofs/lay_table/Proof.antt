@@ -6,8 +6,7 @@ use denote.Ref.{now}
 use Rattle.chart.specs.View.{view}
 use Rattle.flattening.specs.Flattened.{flattened}
 use Rattle.flattening.proofs.Turns.{entered-first}
-use Rattle.guard_literals.proofs.Laid.{laid-both}
-use Rattle.heading.proofs.Laid.{laid-as}
+use Rattle.laying.proofs.Laid.{laid-both, laid-as}
 use Rattle.flatten.proofs.Written.{encode-is, encode-long, encode-few, heading-few, heading-laid}
 use Rattle.flatten.proofs.lay_table.Statement.{statement}
 use Rattle.flatten.proofs.lay_table.Tie as tie

@@ -16,8 +16,8 @@ use Rattle.chart.specs.declared.Literal.{Literal}
 use Rattle.meaning.specs.Taken.{literalsOf}
 use Rattle.flattening.specs.Flattened.{flatLiteral}
 use Rattle.guard_literals.specs.Named.{namesAndState?}
-use Rattle.guard_literals.specs.Laid.{Told}
-use Rattle.guard_literals.proofs.Laid.{laid-none, laid-length}
+use Rattle.guard_literals.specs.Told.{Told}
+use Rattle.laying.proofs.Laid.{laid-none, laid-length}
 use Rattle.guard_literals.proofs.Literals.{literal-named, asked-next}
 use Rattle.guard_literals.proofs.put_asked.Statement.{statement}
 use Rattle.guard_literals.proofs.put_asked.Tie as tie

@@ -3,7 +3,7 @@ use borrow.Author.Needs.{needs}
 use borrow.Author.Tests.{not-true, not-false}
 use mathlib.Core.Path.{_∙_}
 use native.Mathlib.Omega.{arith}
-use Rattle.guard_literals.proofs.Laid.{laid-none}
+use Rattle.laying.proofs.Laid.{laid-none}
 use Rattle.guard_literals.proofs.put_blocker.Statement.{statement}
 use Rattle.guard_literals.proofs.put_blocker.Tie as tie
 

@@ -12,8 +12,8 @@ use Rattle.flat.specs.declared.FlatLiteral.the-variants.{Fails}
 use Rattle.chart.specs.View.{Chart, view}
 use Rattle.flattening.specs.Flattened.{blocks, takenGuard}
 use Rattle.flattening.specs.Encoded.{literalRow}
-use Rattle.guard_literals.specs.Laid.{Told}
-use Rattle.guard_literals.proofs.Laid.{laid-none, laid-length, rows-next}
+use Rattle.guard_literals.specs.Told.{Told}
+use Rattle.laying.proofs.Laid.{laid-none, laid-length, rows-next}
 use Rattle.guard_literals.proofs.put_blockers.Statement.{statement}
 use Rattle.guard_literals.proofs.put_blockers.Tie as tie
 

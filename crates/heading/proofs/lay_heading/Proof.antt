@@ -1,14 +1,12 @@
 -- `heading::lay_heading` meets its contract: each section is laid where the one before it ends. Assumes nothing.
 use borrow.Author.Needs.{needs}
 use native.Mathlib.Omega.{arith}
-use mathlib.Core.Path.{ap}
 use denote.Ref.{now}
-use lib.ListN.{length}
 use Rattle.chart.specs.View.{view}
 use Rattle.flattening.specs.Flattened.{flattened}
 use Rattle.heading.specs.Sizes.{heading}
-use Rattle.guard_literals.proofs.Laid.{laid-both}
-use Rattle.heading.proofs.Sections.{header-end, initials-are, initials-few}
+use Rattle.laying.proofs.Laid.{laid-both}
+use Rattle.heading.proofs.Sections.{header-end, initials-few}
 use Rattle.heading.proofs.lay_heading.Statement.{statement}
 use Rattle.heading.proofs.lay_heading.Tie as tie
 
@@ -17,8 +15,7 @@ lay-owners-requires c κs =
     let start = c .before .before .before .before .before .before .before .before .before .before .before .before .before in
     let rules = start .pre .0 in
     let v = view (now (start .args .t)) in
-    let few = ap length (initials-are v) in
-    (rules, start .pre .1, omega (arith, few, initials-few v (v .states), rules .counts .states .1))
+    (rules, start .pre .1, omega (arith, initials-few v, rules .counts .states .1))
 
 returns : tie.Need-returns
 unfolding heading
@@ -30,9 +27,7 @@ returns c =
     let g = flattened (view (now (start .args .t))) in
     let a = initials .lay-initials .ensures in
     let b = owners .lay-owners .ensures in
-    let all =
-    laid-both (header-end g (now (start .args .room)) (header .lay-header .ensures))
-    (laid-both (record { place = a .0; laid = a .1 }) (record { place = b .0; laid = b .1 })) in
+    let all = laid-both (header-end g (now (start .args .room)) (header .lay-header .ensures)) (laid-both a b) in
     (omega (arith, all .place), all .laid)
 
 pub lay-heading-spec : {M : Type 1} → statement M

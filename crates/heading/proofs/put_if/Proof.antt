@@ -1,18 +1,18 @@
 -- `heading::put_if` meets its contract: one word is laid, or none. Assumes nothing.
 use borrow.Author.Needs.{needs}
 use mathlib.Core.Path.{refl}
-use native.Mathlib.Omega.{arith}
 use Rattle.laying.specs.Lay.{lay}
+use Rattle.laying.proofs.Laid.{laid-none}
 use Rattle.heading.proofs.put_if.Statement.{statement}
 use Rattle.heading.proofs.put_if.Tie as tie
 
 returns : tie.Need-returns
 unfolding lay
-returns c = rw (c .before .before .before .before .if1 .taken) (refl, c .before .before .put .ensures)
+returns c =
+    rw (c .before .before .before .before .if1 .taken) (record { place = refl; laid = c .before .before .put .ensures })
 
 returns-2 : tie.Need-returns-2
-unfolding lay
-returns-2 c = rw (c .if1 .left) (omega arith, refl)
+returns-2 c = rw (c .if1 .left) laid-none
 
 pub put-if-spec : {M : Type 1} → statement M
 put-if-spec =

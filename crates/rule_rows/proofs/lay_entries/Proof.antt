@@ -7,7 +7,7 @@ use denote.Ref.{now}
 use Rattle.words.specs.Loops.{joinUp}
 use Rattle.chart.specs.View.{view}
 use Rattle.flattening.specs.Encoded.{ruleRow}
-use Rattle.guard_literals.proofs.Laid.{laid-none, laid-length, rows-next}
+use Rattle.laying.proofs.Laid.{laid-none, laid-length, rows-next}
 use Rattle.rule_rows.specs.Ruled.{Ruled, ofEntry}
 use Rattle.rule_rows.proofs.lay_entries.Statement.{statement}
 use Rattle.rule_rows.proofs.lay_entries.Tie as tie

@@ -10,7 +10,7 @@ use native.Mathlib.Omega.{arith}
 use denote.Ref.{now}
 use Rattle.chart.specs.View.{view}
 use Rattle.flattening.specs.Flattened.{comes, entryRule}
-use Rattle.guard_literals.proofs.Laid.{laid-none}
+use Rattle.laying.proofs.Laid.{laid-none}
 use Rattle.rule_rows.proofs.Ruled.{one-rule, same-row}
 use Rattle.rule_rows.proofs.lay_entry.Statement.{statement}
 use Rattle.rule_rows.proofs.lay_entry.Tie as tie

@@ -8,7 +8,7 @@ use denote.Ref.{now}
 use lib.ListN.{getD}
 use Rattle.chart.specs.View.{view}
 use Rattle.flattening.specs.Flattened.{exitRule}
-use Rattle.guard_literals.proofs.Laid.{laid-none}
+use Rattle.laying.proofs.Laid.{laid-none}
 use Rattle.rule_rows.proofs.Ruled.{one-rule, same-row}
 use Rattle.rule_rows.proofs.lay_exit.Statement.{statement}
 use Rattle.rule_rows.proofs.lay_exit.Tie as tie

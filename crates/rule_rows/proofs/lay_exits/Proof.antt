@@ -7,7 +7,7 @@ use native.Mathlib.Omega.{arith}
 use denote.Ref.{now}
 use lib.ListN.{length}
 use Rattle.chart.specs.View.{view}
-use Rattle.guard_literals.proofs.Laid.{laid-length}
+use Rattle.laying.proofs.Laid.{laid-length}
 use Rattle.rule_rows.specs.Ruled.{ofExit}
 use Rattle.rule_rows.proofs.Ruled.{Falling, falling-start, falling-next, falling-end}
 use Rattle.rule_rows.proofs.lay_exits.Statement.{statement}

@@ -8,7 +8,7 @@ use lib.ListN.{getD}
 use Rattle.words.proofs.Tests.{eqb-yes, eqb-no}
 use Rattle.chart.specs.View.{view}
 use Rattle.flattening.specs.Flattened.{ownRule}
-use Rattle.guard_literals.proofs.Laid.{laid-none}
+use Rattle.laying.proofs.Laid.{laid-none}
 use Rattle.rule_rows.proofs.Ruled.{one-rule, same-row}
 use Rattle.rule_rows.proofs.lay_own.Statement.{statement}
 use Rattle.rule_rows.proofs.lay_own.Tie as tie

@@ -11,7 +11,7 @@ use Rattle.words.specs.Loops.{joinUp}
 use Rattle.chart.specs.View.{view}
 use Rattle.flattening.specs.Flattened.{enteredGuard, rulesOf, flattened}
 use Rattle.flattening.specs.Encoded.{ruleRow, ruleWords}
-use Rattle.guard_literals.proofs.Laid.{laid-none, laid-length, rows-next}
+use Rattle.laying.proofs.Laid.{laid-none, laid-length, rows-next}
 use Rattle.rule_rows.specs.Ruled.{Ruled}
 use Rattle.rule_rows.proofs.lay_rules.Statement.{statement}
 use Rattle.rule_rows.proofs.lay_rules.Tie as tie

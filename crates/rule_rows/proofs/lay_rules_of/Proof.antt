@@ -8,7 +8,7 @@ use Rattle.words.specs.Loops.{joinUp, joinDown}
 use Rattle.chart.specs.View.{view}
 use Rattle.flattening.specs.Flattened.{rulesOf}
 use Rattle.flattening.specs.Encoded.{ruleRow}
-use Rattle.guard_literals.proofs.Laid.{rows-both}
+use Rattle.laying.proofs.Laid.{rows-both}
 use Rattle.rule_rows.specs.Ruled.{ofExit, ofOwn, ofEntry}
 use Rattle.rule_rows.proofs.lay_rules_of.Statement.{statement}
 use Rattle.rule_rows.proofs.lay_rules_of.Tie as tie

@@ -3,15 +3,8 @@ use Prim.Native.Nat.{ℕ, _+_}
 use mathlib.Core.Path.{_≡_}
 use mathlib.Core.List.{List}
 use lib.ListN.{length}
-use Rattle.words.specs.Loops.{joined}
-use Rattle.flat.specs.declared.FlatLiteral.{FlatLiteral}
-use Rattle.flattening.specs.Encoded.{literalRow}
 use Rattle.laying.specs.Lay.{lay}
 
 pub record Laid (at : ℕ) (words before : List ℕ) (next : ℕ) (after : List ℕ) : Type 0 where
   pub place : next ≡ at + length words
   pub laid : after ≡ lay at words before
-
--- The words of literals.
-abbrev pub Told : ℕ → List FlatLiteral → List ℕ → ℕ → List ℕ → Type 0
-Told at ls before next after = Laid at (joined literalRow ls) before next after

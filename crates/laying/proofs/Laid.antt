@@ -8,9 +8,9 @@ use native.Mathlib.Omega.{arith}
 use lib.ListN.{length, length-append}
 use Rattle.words.specs.Loops.{joined, joinUp}
 use Rattle.words.proofs.Lists.{joined-append}
 use Rattle.laying.specs.Lay.{lay}
+use Rattle.laying.specs.Laid.{Laid}
 use Rattle.laying.proofs.Lay.{lay-append, lay-length}
-use Rattle.guard_literals.specs.Laid.{Laid}
 
 module _ {at m n : ℕ} {old mid new : List ℕ} where
   pub laid-both : {xs ys : List ℕ} → Laid at xs old m mid → Laid m ys mid n new → Laid at (xs ++ ys) old n new
@@ -28,6 +28,18 @@ module _ {at : ℕ} {old : List ℕ} where
 
   pub laid-length : {n : ℕ} {ws new : List ℕ} → Laid at ws old n new → length new ≡ length old
   laid-length {n} {ws} p = ap length (p .laid) ∙ lay-length at ws old
+
+  -- the same words by another name
+  pub laid-as : {n : ℕ} {ws vs new : List ℕ} → ws ≡ vs → Laid at ws old n new → Laid at vs old n new
+  laid-as e p = record {
+    place = p .place ∙ ap (λ (l : List ℕ). at + length l) e;
+    laid = p .laid ∙ ap (λ (l : List ℕ). lay at l old) e;
+  }
+
+-- one turn of a loop that lays a run of words for each number
+pub laid-next : (f : ℕ → List ℕ) {at k m n : ℕ} {old mid new : List ℕ} → Laid at (joinUp f k) old m mid
+    → Laid m (f k) mid n new → Laid at (joinUp f (k + 1)) old n new
+laid-next f {k = k} p q = rw (add-one k) (laid-both p q)
 
 -- ---- rows of records
 module _ {A : Type 0} (row : A → List ℕ) {at m n : ℕ} {old mid new : List ℕ} where
