@@ -1,13 +1,11 @@
 -- Words copied one by one to behind the first `at` of others, up to their end. Assumes nothing.
-use mathlib.Core.Path.{_≡_, refl, ap, ap₂, _∙_}
+use mathlib.Core.Path.{_≡_, ap, ap₂, _∙_}
 use mathlib.Core.List.{List, _++_, append-nil}
-use Prim.Native.Nat.{ℕ, zero, suc, _+_, _≤_, _<_}
-use native.Mathlib.Nat.{not-suc-le-zero, le-of-suc-le-suc}
+use Prim.Native.Nat.{ℕ, _+_, _≤_, _<_}
 use native.Mathlib.Numerals.{add-one}
 use native.Mathlib.Omega.{arith}
 use lib.ListN.{length, getD, set, take, drop, length-drop, drop-of-length-le}
 use lib.Seq.{paste, paste-suc, length-paste, take-all, length-take-le, getD-take, getD-drop}
-use Rattle.effects.specs.Lent.{zeros}
 
 module _ (d : List ℕ) (at : ℕ) (s to : List ℕ) (i : ℕ) where
   -- one word more
@@ -32,13 +30,3 @@ module _ (from : List ℕ) (at n : ℕ) where
 
   pub part-at : (i : ℕ) → i < n → getD (take n (drop at from)) i 0 ≡ getD from (at + i) 0
   part-at i h = getD-take n (drop at from) i 0 h ∙ getD-drop at from i 0
-
--- how many zeros there are, and each of them
-pub zeros-length : (n : ℕ) → length (zeros n) ≡ n
-zeros-length zero = refl
-zeros-length (suc n) = ap suc (zeros-length n)
-
-pub zeros-at : (n i : ℕ) → i < n → getD (zeros n) i 0 ≡ 0
-zeros-at zero i h = absurd (not-suc-le-zero h)
-zeros-at (suc n) zero h = refl
-zeros-at (suc n) (suc i) h = zeros-at n i (le-of-suc-le-suc h)

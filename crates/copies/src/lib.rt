@@ -31,6 +31,15 @@ pub fn store(to: &mut [u16], at: usize, from: &[u16])
     }
 }
 
+// The words of `from`, in front of `to`.
+pub fn lay(from: &[u16], to: &mut [u16])
+    requires { ⌜ length (now from) ≤ length (now to) ⌝ }
+    ensures { λ r. ⌜ now (to .exit) ≡ now (from .entry) ++ drop (length (now (from .entry))) (now (to .entry)) ⌝ }
+{
+    let n = from.len();
+    load(&mut to[..n], from, 0);
+}
+
 // Zeros behind the first `at` words.
 pub fn clear(to: &mut [u16], at: usize)
     requires { ⌜ (at ≤ 48) × (at ≤ length (now to)) ⌝ }

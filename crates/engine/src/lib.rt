@@ -1,6 +1,5 @@
 // The chart engine: the calls that start and run a chart. It takes any table, state, event and room.
 ghost use mathlib.Core.Path.{_≡_};
-ghost use mathlib.Core.List.{_++_};
 ghost use Prim.Native.Nat.{_+_, _≤_};
 ghost use lib.ListN.{length};
 ghost use Rattle.table.specs.Answers.{told};
@@ -8,11 +7,9 @@ ghost use Rattle.effects.specs.Lent.{startTold};
 ghost use Rattle.chart.specs.View.{view};
 ghost use Rattle.chart_rules.specs.Rules.{ChartRules};
 ghost use Rattle.chart_check.specs.Answer.{chartAnswer};
-ghost use Rattle.meaning.specs.Steps.{rest};
-ghost use Rattle.meaning.specs.State.{orStates};
+ghost use Rattle.meaning.specs.State.{orStates, stateLength};
 ghost use Rattle.meaning.specs.Calls.{startedOn, startChart, ranOn, ranAccepted, runChart};
 ghost use Rattle.active.specs.Ranks.{Ranks};
-ghost use Rattle.macrostep.specs.Ends.{Sized};
 ghost use Rattle.engine.specs.Told.{ranTold, countsOf};
 use effects::Progress;
 use macrostep::Form;
@@ -35,15 +32,6 @@ pub struct Counts {
     pub outputs: u32,
 }
 
-// The words as a macrostep hands them back, and the variables behind them, into `state`.
-fn hand_back(t: &[u16], ranks: &[u16], current: &[u16], vars: &[u16], state: &mut [u16])
-    requires { ⌜ ChartRules (now t) × Ranks (view (now t)) (now ranks) × (orStates (view (now t)) ≤ 48) × (length (now current) ≡ orStates (view (now t))) × (orStates (view (now t)) + length (now vars) ≡ length (now state)) ⌝ }
-    ensures { λ r. ⌜ now (state .exit) ≡ rest (view (now (t .entry))) (now (current .entry)) ++ now (vars .entry) ⌝ }
-{
-    lent::lay_rest(t, ranks, current, state);
-    copies::store(state, current.len(), vars);
-}
-
 // What is reported of a finished macrostep.
 fn counts_of(n: Progress) -> Counts
     ensures { λ r. ⌜ r ≡ countsOf n ⌝ }
@@ -57,41 +45,24 @@ fn counts_of(n: Progress) -> Counts
     }
 }
 
-// One event on a state of an accepted chart. `ranks` are the places of the or-states' words; `current`, `next`, `vars` and
-// `queue` are the space that a macrostep works on.
+// One event on a state of an accepted chart. `ranks` are the places of its or-states' words, with space for as many words behind
+// them as it has or-states, `ors`.
 fn run_state(
     t: &[u16],
     ranks: &mut [u16],
+    ors: usize,
     state: &mut [u16],
     event: Trigger,
     outputs: &mut [u16],
-    current: &mut [u16],
-    next: &mut [u16],
-    vars: &mut [u16],
-    queue: &mut [u16],
 ) -> ChartRun
-    requires { ⌜ ChartRules (now t) × Ranks (view (now t)) (now ranks) × (length (now current) ≡ orStates (view (now t))) × Sized (now state) (now current) (now next) (now vars) (now queue) ⌝ }
+    requires { ⌜ ChartRules (now t) × Ranks (view (now t)) (now ranks) × (48 + orStates (view (now t)) ≡ length (now ranks)) × (ors ≡ orStates (view (now t))) × (ors ≤ 24) × (length (now state) ≡ stateLength (view (now t))) ⌝ }
     ensures { λ r. ⌜ ranTold r (now (state .exit)) (now (outputs .exit)) ≡ ranOn (view (now (t .entry))) (now (state .entry)) (event .0) (now (outputs .entry)) ⌝ }
 {
-    let room = copies::room_of(outputs.len());
-    let n = macrostep::run(
-        Form::Chart,
-        t,
-        ranks,
-        state,
-        event,
-        room,
-        current,
-        next,
-        vars,
-        outputs,
-        queue,
-    );
+    let n = macrostep::run(Form::Chart, t, ranks, ors, state, event, outputs);
     let stop = n.stop;
     if effects::has_stopped(stop) {
         return ChartRun::Refused(effects::refusal_of(stop));
     }
-    hand_back(t, ranks, current, vars, state);
     ChartRun::Done(counts_of(n))
 }
 
@@ -100,7 +71,7 @@ fn run_accepted(t: &[u16], state: &mut [u16], event: u32, outputs: &mut [u16]) -
     requires { ⌜ ChartRules (now t) ⌝ }
     ensures { λ r. ⌜ ranTold r (now (state .exit)) (now (outputs .exit)) ≡ ranAccepted (view (now (t .entry))) (now (state .entry)) event (now (outputs .entry)) ⌝ }
 {
-    let mut ranks = [0u16; 48];
+    let mut ranks = [0u16; 72];
     let ors = active::or_ranks(t, &mut ranks);
     if !lent::is_state(t, &ranks, ors, state) {
         return ChartRun::Refused(Refusal::State);
@@ -108,22 +79,8 @@ fn run_accepted(t: &[u16], state: &mut [u16], event: u32, outputs: &mut [u16]) -
     if words::number(t, chart::EVENTS) <= effects::wide(event) {
         return ChartRun::Refused(Refusal::NoEvent);
     }
-    let v = words::number(t, chart::VARIABLES);
-    let mut current = [0u16; 24];
-    let mut next = [0u16; 24];
-    let mut vars = [0u16; 16];
-    let mut queue = [0u16; 32];
-    run_state(
-        t,
-        &mut ranks,
-        state,
-        Trigger(event),
-        outputs,
-        &mut current[..ors],
-        &mut next[..ors],
-        &mut vars[..v],
-        &mut queue,
-    )
+    let end = 48 + ors;
+    run_state(t, &mut ranks[..end], ors, state, Trigger(event), outputs)
 }
 
 // The check's answer to a chart, in a call of its own: what it takes on the stack is free again for the run.

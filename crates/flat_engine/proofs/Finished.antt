@@ -1,8 +1,8 @@
 -- What a run hands back of a macrostep, by how the macrostep ends. Assumes nothing.
 use Prim.Native.Nat.{ℕ}
-use mathlib.Core.Path.{_≡_, refl, ap, ap₂, _∙_}
+use mathlib.Core.Path.{_≡_, refl, ap, _∙_}
 use mathlib.Core.Bool.{true, false}
-use mathlib.Core.List.{List, _++_}
+use mathlib.Core.List.{List}
 use lib.ListN.{length, take, drop}
 use Rattle.words.proofs.Tests.{clash}
 use Rattle.table.specs.declared.Refusal.{Refusal}
@@ -11,37 +11,37 @@ use Rattle.effects.specs.Run.{Result, St, macrostep}
 use Rattle.effects.specs.Work.{stopped?, refusalOf}
 use Rattle.effects.specs.Lent.{roomFor}
 use Rattle.macrostep.specs.Ends.{Ends, ended, halted}
-use Rattle.flat.specs.View.{Flat}
+use Rattle.macrostep.specs.declared.Form.the-variants.{Flat}
+use Rattle.flat.specs.View.{flatView}
 use Rattle.flat_meaning.specs.Steps.{flatMachine}
 use Rattle.flat_meaning.specs.Calls.{flatFinished, flatRanOn}
 use Rattle.flat_engine.specs.Told.{flatRanTold, flatCountsOf}
 use Rattle.flat_engine.specs.declared.FlatCounts.{FlatCounts}
 use Rattle.flat_engine.specs.declared.FlatRun.the-variants.{Done, Refused}
 
-module _ (state outputs : List ℕ) (n : Progress) (words vars outs : List ℕ) where
-  stopped-told : {meant : Result St} → Ends outputs n words vars outs meant → stopped? (n .stop) ≡ true
-      → flatRanTold (Refused (refusalOf (n .stop))) state outs ≡ flatFinished meant state outputs
-  stopped-told (halted h) e = rw (h .why, h .outs-stay) refl
+module _ (t state outputs : List ℕ) (n : Progress) (state′ outputs′ : List ℕ) where
+  stopped-told : {meant : Result St} → Ends Flat t state outputs n state′ outputs′ meant → stopped? (n .stop) ≡ true
+      → flatRanTold (Refused (refusalOf (n .stop))) state′ outputs′ ≡ flatFinished meant state outputs
+  stopped-told (halted h) e = rw (h .why, h .state-stays, h .outs-stay) refl
   stopped-told (ended d) e = clash (stopped? (n .stop)) e (d .goes-on)
 
-  ended-told : {meant : Result St} → Ends outputs n words vars outs meant → stopped? (n .stop) ≡ false
-      → flatRanTold (Done (flatCountsOf n)) (words ++ vars) outs ≡ flatFinished meant state outputs
-  ended-told (ended d) e = rw (d .micro, d .taken, d .given, d .words-are, d .vars-are, d .outs-are) refl
+  ended-told : {meant : Result St} → Ends Flat t state outputs n state′ outputs′ meant → stopped? (n .stop) ≡ false
+      → flatRanTold (Done (flatCountsOf n)) state′ outputs′ ≡ flatFinished meant state outputs
+  ended-told (ended d) e = rw (d .micro, d .taken, d .given, d .state-is, d .outs-are) refl
   ended-told (halted h) e = clash (stopped? (n .stop)) (h .halts) e
 
-  -- The macrostep is that of the state, with the room that is lent.
-  module _ (f : Flat) (event room k : ℕ) (is : room ≡ roomFor (length outputs)) (words-are : k ≡ f .machines)
-      (ends : Ends outputs n words vars outs (macrostep (f .events) room (flatMachine f) event (take k state) (drop k state))) where
-    ran : flatFinished (macrostep (f .events) room (flatMachine f) event (take k state) (drop k state)) state outputs
-        ≡ flatRanOn f state event outputs
+  -- The macrostep is that of the state.
+  module _ (event k : ℕ) (words-are : k ≡ flatView t .machines)
+      (ends : Ends Flat t state outputs n state′ outputs′ (macrostep (flatView t .events) (roomFor (length outputs)) (flatMachine (flatView t)) event (take k state) (drop k state))) where
+    ran : flatFinished (macrostep (flatView t .events) (roomFor (length outputs)) (flatMachine (flatView t)) event (take k state) (drop k state)) state outputs
+        ≡ flatRanOn (flatView t) state event outputs
     unfolding flatRanOn
-    ran = rw (is, words-are) refl
+    ran = rw words-are refl
 
     pub run-stopped : stopped? (n .stop) ≡ true → (r : Refusal) → r ≡ refusalOf (n .stop)
-        → flatRanTold (Refused r) state outs ≡ flatRanOn f state event outputs
-    run-stopped h r why = ap (λ (q : Refusal). flatRanTold (Refused q) state outs) why ∙ stopped-told ends h ∙ ran
+        → flatRanTold (Refused r) state′ outputs′ ≡ flatRanOn (flatView t) state event outputs
+    run-stopped h r is = ap (λ (x : Refusal). flatRanTold (Refused x) state′ outputs′) is ∙ stopped-told ends h ∙ ran
 
-    pub run-done : stopped? (n .stop) ≡ false → (counts : FlatCounts) → counts ≡ flatCountsOf n → (state′ : List ℕ)
-        → state′ ≡ words ++ vars → flatRanTold (Done counts) state′ outs ≡ flatRanOn f state event outputs
-    run-done h counts counted state′ handed =
-        ap₂ (λ (m : FlatCounts) (x : List ℕ). flatRanTold (Done m) x outs) counted handed ∙ ended-told ends h ∙ ran
+    pub run-done : stopped? (n .stop) ≡ false → (counts : FlatCounts) → counts ≡ flatCountsOf n
+        → flatRanTold (Done counts) state′ outputs′ ≡ flatRanOn (flatView t) state event outputs
+    run-done h counts is = ap (λ (m : FlatCounts). flatRanTold (Done m) state′ outputs′) is ∙ ended-told ends h ∙ ran

@@ -4,12 +4,13 @@ ghost use mathlib.Core.List.{_++_};
 ghost use Prim.Native.Nat.{_+_, _*_, _≤_};
 ghost use lib.ListN.{length, drop};
 ghost use Rattle.words.specs.Loops.{allBelow};
+ghost use Rattle.table.specs.Answers.{told};
 ghost use Rattle.effects.specs.Lent.{startTold};
 ghost use Rattle.flat.specs.View.{flatView};
 ghost use Rattle.flat_rules.specs.Rules.{FlatRules};
-ghost use Rattle.flat_meaning.specs.State.{goodFlatWord?, flatStateOf?, flatStartWords};
+ghost use Rattle.flat_check.specs.Answer.{flatAnswer};
+ghost use Rattle.flat_meaning.specs.State.{goodFlatWord?, flatLength, flatStateOf?, flatStartWords};
 ghost use Rattle.flat_meaning.specs.Calls.{flatStartedOn, startFlat, flatRanOn, flatRanAccepted, runFlat};
-ghost use Rattle.macrostep.specs.Ends.{Sized};
 ghost use Rattle.flat_engine.specs.Told.{flatRanTold, flatCountsOf};
 use effects::Progress;
 use macrostep::Form;
@@ -58,16 +59,6 @@ fn is_state(t: &[u16], state: &[u16]) -> bool
     good_words(t, &state[..machines])
 }
 
-// Words in front, and variables behind them, into `state`.
-fn hand_back(current: &[u16], vars: &[u16], state: &mut [u16])
-    requires { ⌜ (length (now current) ≤ 48) × (length (now current) + length (now vars) ≡ length (now state)) ⌝ }
-    ensures { λ r. ⌜ now (state .exit) ≡ now (current .entry) ++ now (vars .entry) ⌝ }
-{
-    let n = current.len();
-    copies::load(&mut state[..n], current, 0);
-    copies::store(state, n, vars);
-}
-
 // What is reported of a finished macrostep.
 fn counts_of(n: Progress) -> FlatCounts
     ensures { λ r. ⌜ r ≡ flatCountsOf n ⌝ }
@@ -79,41 +70,23 @@ fn counts_of(n: Progress) -> FlatCounts
     }
 }
 
-// One event on a state of an accepted flat table. `marks` has a bit for each guard; `current`, `next`, `vars` and `queue` are
-// the space that a macrostep works on.
+// One event on a state of an accepted flat table. `marks` has a bit for each guard.
 fn run_state(
     t: &[u16],
     marks: &mut [u16],
     state: &mut [u16],
     event: Trigger,
     outputs: &mut [u16],
-    current: &mut [u16],
-    next: &mut [u16],
-    vars: &mut [u16],
-    queue: &mut [u16],
 ) -> FlatRun
-    requires { ⌜ FlatRules (now t) × (flatView (now t) .guards ≤ 16 * length (now marks)) × (length (now current) ≡ flatView (now t) .machines) × Sized (now state) (now current) (now next) (now vars) (now queue) ⌝ }
+    requires { ⌜ FlatRules (now t) × (flatView (now t) .guards ≤ 16 * length (now marks)) × (length (now state) ≡ flatLength (flatView (now t))) ⌝ }
     ensures { λ r. ⌜ flatRanTold r (now (state .exit)) (now (outputs .exit)) ≡ flatRanOn (flatView (now (t .entry))) (now (state .entry)) (event .0) (now (outputs .entry)) ⌝ }
 {
-    let room = copies::room_of(outputs.len());
-    let n = macrostep::run(
-        Form::Flat,
-        t,
-        marks,
-        state,
-        event,
-        room,
-        current,
-        next,
-        vars,
-        outputs,
-        queue,
-    );
+    let machines = words::number(t, flat::MACHINES);
+    let n = macrostep::run(Form::Flat, t, marks, machines, state, event, outputs);
     let stop = n.stop;
     if effects::has_stopped(stop) {
         return FlatRun::Refused(effects::refusal_of(stop));
     }
-    hand_back(current, vars, state);
     FlatRun::Done(counts_of(n))
 }
 
@@ -128,32 +101,23 @@ fn run_accepted(t: &[u16], state: &mut [u16], event: u32, outputs: &mut [u16]) -
     if words::number(t, flat::EVENTS) <= effects::wide(event) {
         return FlatRun::Refused(Refusal::NoEvent);
     }
-    let m = words::number(t, flat::MACHINES);
-    let v = words::number(t, flat::VARIABLES);
     let g = words::number(t, flat::GUARDS) / 16 + 1;
     let mut marks = [0u16; 147];
-    let mut current = [0u16; 24];
-    let mut next = [0u16; 24];
-    let mut vars = [0u16; 16];
-    let mut queue = [0u16; 32];
-    run_state(
-        t,
-        &mut marks[..g],
-        state,
-        Trigger(event),
-        outputs,
-        &mut current[..m],
-        &mut next[..m],
-        &mut vars[..v],
-        &mut queue,
-    )
+    run_state(t, &mut marks[..g], state, Trigger(event), outputs)
+}
+
+// The check's answer to a flat table, in a call of its own: what it takes on the stack is free again for the run.
+fn checked(t: &[u16]) -> Verdict
+    ensures { λ r. ⌜ told r ≡ flatAnswer (now (t .entry)) ⌝ }
+{
+    flat_check::check(t)
 }
 
 // One event on a flat table, as document 01 says it for anything at all.
 pub fn run(t: &[u16], state: &mut [u16], event: u32, outputs: &mut [u16]) -> FlatRun
     ensures { λ r. ⌜ flatRanTold r (now (state .exit)) (now (outputs .exit)) ≡ runFlat (now (t .entry)) (now (state .entry)) event (now (outputs .entry)) ⌝ }
 {
-    let verdict = flat_check::check(t);
+    let verdict = checked(t);
     match verdict {
         Verdict::Refused(refusal) => FlatRun::Refused(refusal),
         Verdict::Done => run_accepted(t, state, event, outputs),

@@ -1,3 +1,3 @@
--- Laws of what this crate goes through: `Turns` of one turn of the loop, `Twice` of a macrostep that is gone through twice.
+-- Laws of what this crate goes through: `Turns` of one turn of the loop, `Passes` of a macrostep that may be gone through twice.
 pub mod Turns
-pub mod Twice
+pub mod Passes

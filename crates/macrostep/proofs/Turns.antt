@@ -1,4 +1,4 @@
--- Slices that are filled, and one turn of the macrostep's loop. Assumes nothing.
+-- One turn of the macrostep's loop, and words kept behind others. Assumes nothing.
 use Prim.Native.Nat.{ℕ, suc, _+_, _-_, _%_, _<_, _≤_}
 use mathlib.Core.Path.{_≡_, refl, sym, ap, _∙_}
 use mathlib.Core.Bool.{true, false, cond}
@@ -6,7 +6,7 @@ use mathlib.Core.List.{List}
 use native.Mathlib.Omega.{arith}
 use lib.ListN.{length, getD, take, drop, length-drop}
 use lib.Seq.{take-length}
-use Rattle.effects.specs.Run.{Step, Machine}
+use Rattle.effects.specs.Run.{Machine}
 use Rattle.effects.specs.Work.{Going, going, doSteps, onN, microDone, popped, stopAt, ended?, turns}
 use Rattle.effects.specs.declared.Progress.{Progress}
 use Rattle.effects.specs.declared.Stop.the-variants.{Microsteps}
@@ -19,21 +19,6 @@ filled to from n e p = p ∙ ap (λ (k : ℕ). take k from) e ∙ take-length fr
 pub filled-behind : (to from : List ℕ) (n k : ℕ) → length from ≡ n + k → to ≡ take k (drop n from) → to ≡ drop n from
 filled-behind to from n k e p = filled to (drop n from) k (omega (arith, length-drop n from)) p
 
--- a microstep from `next` that is copied into `current` and counted
-pub micro-turn : (room : ℕ) (steps : List Step) (n r q : Progress)
-    (current next vars outs queue current′ next′ vars′ outs′ queue′ : List ℕ)
-    → next ≡ current → length current ≡ length next′ → current′ ≡ take (length current) next′ → q ≡ microDone r
-    → going r next′ vars′ outs′ queue′ ≡ doSteps room steps (going n next vars outs queue)
-    → (going q current′ vars′ outs′ queue′ ≡ onN microDone (doSteps room steps (going n current vars outs queue)))
-    × (next′ ≡ current′)
-micro-turn room steps n r q current next vars outs queue current′ next′ vars′ outs′ queue′ same long fills counts step =
-    let e = filled current′ next′ (length current) long fills in (
-      ap (λ (x : List ℕ). going q x vars′ outs′ queue′) e ∙ ap (λ (p : Progress). going p next′ vars′ outs′ queue′) counts
-          ∙ ap (onN microDone) step
-          ∙ ap (λ (x : List ℕ). onN microDone (doSteps room steps (going n x vars outs queue))) same,
-      sym e,
-    )
-
 module _ (events room : ℕ) (m : Machine) where
   -- what follows a microstep
   after : ℕ → Going → Going
@@ -45,13 +30,17 @@ module _ (events room : ℕ) (m : Machine) where
   unfolding turns after
   one-turn f e g = refl
 
-  module _ (f e : ℕ) (n q : Progress) (words vars outs queue words′ vars′ outs′ queue′ : List ℕ) (l : 0 < f)
-      (step : going q words′ vars′ outs′ queue′ ≡ onN microDone (doSteps room (m e words vars) (going n words vars outs queue))) where
+  -- a microstep came to r, which is counted
+  module _ (f e : ℕ) (n r q : Progress) (words vars outs queue words′ vars′ outs′ queue′ : List ℕ) (l : 0 < f)
+      (step : going r words′ vars′ outs′ queue′ ≡ doSteps room (m e words vars) (going n words vars outs queue))
+      (counts : q ≡ microDone r) where
     turned : turns f events room m e (going n words vars outs queue) ≡ after (f - 1) (going q words′ vars′ outs′ queue′)
     turned =
         let z : f ≡ suc (f - 1) = omega arith in
+        let counted : going q words′ vars′ outs′ queue′ ≡ onN microDone (doSteps room (m e words vars) (going n words vars outs queue))
+        = ap (λ (p : Progress). going p words′ vars′ outs′ queue′) counts ∙ ap (onN microDone) step in
         ap (λ (k : ℕ). turns k events room m e (going n words vars outs queue)) z
-        ∙ one-turn (f - 1) e (going n words vars outs queue) ∙ ap (after (f - 1)) (sym step)
+        ∙ one-turn (f - 1) e (going n words vars outs queue) ∙ ap (after (f - 1)) (sym counted)
 
     pub ends : ended? q ≡ true → turns f events room m e (going n words vars outs queue) ≡ going q words′ vars′ outs′ queue′
     unfolding after

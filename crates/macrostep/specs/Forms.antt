@@ -1,11 +1,13 @@
 -- The two forms of tables that a macrostep goes through: one machine each.
-use Prim.Native.Nat.{ℕ, _*_, _≤_}
+use Prim.Native.Nat.{ℕ, _+_, _*_, _≤_}
+use mathlib.Core.Path.{_≡_}
 use mathlib.Core.List.{List}
 use lib.ListN.{length, getD}
 use Rattle.effects.specs.Run.{Machine}
 use Rattle.chart.specs.View.{view}
 use Rattle.chart_rules.specs.Rules.{ChartRules}
-use Rattle.meaning.specs.Steps.{chartMachine}
+use Rattle.meaning.specs.Steps.{chartMachine, rest}
+use Rattle.meaning.specs.State.{orStates}
 use Rattle.active.specs.Ranks.{Ranks}
 use Rattle.flat.specs.View.{flatView}
 use Rattle.flat_rules.specs.Rules.{FlatRules}
@@ -21,8 +23,18 @@ machineOf Flat t = flatMachine (flatView t)
 abbrev pub eventsOf : List ℕ → ℕ
 eventsOf t = getD t 4 0
 
--- A table is accepted, and `own` is the space that its form needs for itself: the places of a chart's or-states, or a bit for
--- each guard of a flat table.
+-- How many words of a state stand before its variables: one for each or-state, or one for each machine.
+abbrev pub wordsOf : Form → List ℕ → ℕ
+wordsOf Chart t = orStates (view t)
+wordsOf Flat t = flatView t .machines
+
+-- These words as a finished macrostep hands them back.
+abbrev pub atRest : Form → List ℕ → List ℕ → List ℕ
+atRest Chart t words = rest (view t) words
+atRest Flat t words = words
+
+-- A table is accepted, and `own` is the space that its form needs for itself: the places of a chart's or-states, with space for
+-- the words at a microstep's start behind them, or a bit for each guard of a flat table.
 abbrev pub Ready : List ℕ → List ℕ → Form → Type 0
-Ready t own Chart = ChartRules t × Ranks (view t) own
+Ready t own Chart = ChartRules t × Ranks (view t) own × (48 + orStates (view t) ≡ length own)
 Ready t own Flat = FlatRules t × (flatView t .guards ≤ 16 * length own)

@@ -1,12 +1,18 @@
 // A macrostep of a chart or of a flat table: microsteps until no signal waits. What the two forms have in common stands here
 // once; `step` alone tells them apart.
 ghost use mathlib.Core.Path.{_≡_};
+ghost use mathlib.Core.List.{_++_};
 ghost use Prim.Native.Nat.{_+_, _≤_};
 ghost use lib.ListN.{length, take, drop};
+ghost use Rattle.chart.specs.View.{view};
+ghost use Rattle.chart_rules.specs.Rules.{ChartRules};
+ghost use Rattle.active.specs.Ranks.{Ranks};
+ghost use Rattle.meaning.specs.Steps.{chartMachine};
 ghost use Rattle.effects.specs.Run.{macrostep};
-ghost use Rattle.effects.specs.Work.{going, doSteps, onN, microDone, turns, fresh};
-ghost use Rattle.macrostep.specs.Forms.{machineOf, eventsOf, Ready};
-ghost use Rattle.macrostep.specs.Ends.{Sized, last?, Ends};
+ghost use Rattle.effects.specs.Lent.{roomFor};
+ghost use Rattle.effects.specs.Work.{going, doSteps, turns, fresh};
+ghost use Rattle.macrostep.specs.Forms.{machineOf, eventsOf, wordsOf, atRest, Ready};
+ghost use Rattle.macrostep.specs.Ends.{Sized, told?, handed, Ends};
 use effects::Progress;
 use effects::Stop;
 use table::Trigger;
@@ -20,13 +26,39 @@ pub enum Form {
 // Header word of the events, in both forms.
 const EVENTS: usize = 4;
 
-// A microstep for trigger e. `current` are the state words at its start; `next` is to be current at its end. `own` is the space
-// that the form needs for itself.
+// The most states of a chart.
+const STATES: usize = 48;
+
+// How many words of the outputs are kept while a macrostep is tried.
+const KEPT: usize = 16;
+
+// A microstep of a chart. `own` has the places of its or-states' words, and behind them space for the words at its start.
+fn step_chart(
+    t: &[u16],
+    own: &mut [u16],
+    e: Trigger,
+    room: usize,
+    next: &mut [u16],
+    vars: &mut [u16],
+    outs: &mut [u16],
+    queue: &mut [u16],
+    n: Progress,
+) -> Progress
+    requires { ⌜ ChartRules (now t) × Ranks (view (now t)) (now own) × (48 + length (now next) ≡ length (now own)) ⌝ }
+    ensures is { λ r. ⌜ going r (now (next .exit)) (now (vars .exit)) (now (outs .exit)) (now (queue .exit)) ≡ doSteps room (chartMachine (view (now (t .entry))) (e .0) (now (next .entry)) (now (vars .entry))) (going n (now (next .entry)) (now (vars .entry)) (now (outs .entry)) (now (queue .entry))) ⌝ }
+    ensures ranks { λ r. ⌜ Ranks (view (now (t .entry))) (now (own .exit)) ⌝ }
+{
+    let start = STATES;
+    copies::store(own, start, next);
+    let held = &own[..];
+    microstep::run(t, held, &held[start..], e, room, next, vars, outs, queue, n)
+}
+
+// A microstep for trigger e, from the words of `next` to those of `next`. `own` is the space that the form needs for itself.
 fn step(
     form: Form,
     t: &[u16],
     own: &mut [u16],
-    current: &[u16],
     e: Trigger,
     room: usize,
     next: &mut [u16],
@@ -35,56 +67,31 @@ fn step(
     queue: &mut [u16],
     n: Progress,
 ) -> Progress
-    requires { ⌜ Ready (now t) (now own) form ⌝ }
-    ensures is { λ r. ⌜ going r (now (next .exit)) (now (vars .exit)) (now (outs .exit)) (now (queue .exit)) ≡ doSteps room (machineOf form (now (t .entry)) (e .0) (now (current .entry)) (now (vars .entry))) (going n (now (next .entry)) (now (vars .entry)) (now (outs .entry)) (now (queue .entry))) ⌝ }
+    requires { ⌜ Ready (now t) (now own) form × (length (now next) ≡ wordsOf form (now t)) ⌝ }
+    ensures is { λ r. ⌜ going r (now (next .exit)) (now (vars .exit)) (now (outs .exit)) (now (queue .exit)) ≡ doSteps room (machineOf form (now (t .entry)) (e .0) (now (next .entry)) (now (vars .entry))) (going n (now (next .entry)) (now (vars .entry)) (now (outs .entry)) (now (queue .entry))) ⌝ }
     ensures ready { λ r. ⌜ Ready (now (t .entry)) (now (own .exit)) form ⌝ }
 {
     match form {
-        Form::Chart => microstep::run(t, own, current, e, room, next, vars, outs, queue, n),
-        Form::Flat => rules::run(t, own, current, e, room, next, vars, outs, queue, n),
+        Form::Chart => step_chart(t, own, e, room, next, vars, outs, queue, n),
+        Form::Flat => rules::run(t, own, e, room, next, vars, outs, queue, n),
     }
 }
 
-// A microstep, after which `current` holds what `next` holds, as it did before.
-fn turn(
-    form: Form,
-    t: &[u16],
-    own: &mut [u16],
-    e: Trigger,
-    room: usize,
-    current: &mut [u16],
-    next: &mut [u16],
-    vars: &mut [u16],
-    outs: &mut [u16],
-    queue: &mut [u16],
-    n: Progress,
-) -> Progress
-    requires { ⌜ Ready (now t) (now own) form × (now next ≡ now current) ⌝ }
-    ensures is { λ r. ⌜ going r (now (current .exit)) (now (vars .exit)) (now (outs .exit)) (now (queue .exit)) ≡ onN microDone (doSteps room (machineOf form (now (t .entry)) (e .0) (now (current .entry)) (now (vars .entry))) (going n (now (current .entry)) (now (vars .entry)) (now (outs .entry)) (now (queue .entry)))) ⌝ }
-    ensures same { λ r. ⌜ now (next .exit) ≡ now (current .exit) ⌝ }
-    ensures ready { λ r. ⌜ Ready (now (t .entry)) (now (own .exit)) form ⌝ }
-{
-    let m = step(form, t, own, current, e, room, next, vars, outs, queue, n);
-    copies::load(current, next, 0);
-    effects::count_micro(m)
-}
-
-// Microsteps until no signal waits, 64 at most. `next` is scratch space.
+// Microsteps until no signal waits, 64 at most.
 fn go(
     form: Form,
     t: &[u16],
     own: &mut [u16],
     event: Trigger,
     room: usize,
-    current: &mut [u16],
     next: &mut [u16],
     vars: &mut [u16],
     outs: &mut [u16],
     queue: &mut [u16],
     n: Progress,
 ) -> Progress
-    requires { ⌜ Ready (now t) (now own) form × (now next ≡ now current) ⌝ }
-    ensures is { λ r. ⌜ going r (now (current .exit)) (now (vars .exit)) (now (outs .exit)) (now (queue .exit)) ≡ turns 64 (eventsOf (now (t .entry))) room (machineOf form (now (t .entry))) (event .0) (going n (now (current .entry)) (now (vars .entry)) (now (outs .entry)) (now (queue .entry))) ⌝ }
+    requires { ⌜ Ready (now t) (now own) form × (length (now next) ≡ wordsOf form (now t)) ⌝ }
+    ensures is { λ r. ⌜ going r (now (next .exit)) (now (vars .exit)) (now (outs .exit)) (now (queue .exit)) ≡ turns 64 (eventsOf (now (t .entry))) room (machineOf form (now (t .entry))) (event .0) (going n (now (next .entry)) (now (vars .entry)) (now (outs .entry)) (now (queue .entry))) ⌝ }
     ensures ready { λ r. ⌜ Ready (now (t .entry)) (now (own .exit)) form ⌝ }
 {
     let events = words::word(t, EVENTS);
@@ -92,7 +99,8 @@ fn go(
     let mut e = event;
     let mut left = 64u32;
     while 0 < left {
-        m = turn(form, t, own, e, room, current, next, vars, outs, queue, m);
+        m = step(form, t, own, e, room, next, vars, outs, queue, m);
+        m = effects::count_micro(m);
         if effects::has_ended(m) {
             return m;
         }
@@ -103,20 +111,8 @@ fn go(
     effects::stop_at(Stop::Microsteps, m)
 }
 
-// The words of `state` into `current` and `next`, its variables into `vars`.
-fn prepare(state: &[u16], current: &mut [u16], next: &mut [u16], vars: &mut [u16])
-    requires { ⌜ (length (now current) ≤ 48) × (length (now next) ≡ length (now current)) × (length (now state) ≡ length (now current) + length (now vars)) ⌝ }
-    ensures current { λ r. ⌜ now (current .exit) ≡ take (length (now (current .entry))) (now (state .entry)) ⌝ }
-    ensures next { λ r. ⌜ now (next .exit) ≡ take (length (now (current .entry))) (now (state .entry)) ⌝ }
-    ensures vars { λ r. ⌜ now (vars .exit) ≡ drop (length (now (current .entry))) (now (state .entry)) ⌝ }
-{
-    copies::load(current, state, 0);
-    copies::load(next, state, 0);
-    copies::load(vars, state, current.len());
-}
-
-// A macrostep from `state`, which stays as it is: words and variables afterwards are in `current` and `vars`, outputs in
-// `outs`. `next` and `queue` are scratch space.
+// A macrostep from `state`, which stays as it is: words and variables afterwards are in `next` and `vars`, outputs in `outs`.
+// `queue` is scratch space.
 fn attempt(
     form: Form,
     t: &[u16],
@@ -124,24 +120,23 @@ fn attempt(
     state: &[u16],
     event: Trigger,
     room: usize,
-    current: &mut [u16],
     next: &mut [u16],
     vars: &mut [u16],
     outs: &mut [u16],
     queue: &mut [u16],
 ) -> Progress
-    requires { ⌜ Ready (now t) (now own) form × Sized (now state) (now current) (now next) (now vars) (now queue) ⌝ }
-    ensures is { λ r. ⌜ going r (now (current .exit)) (now (vars .exit)) (now (outs .exit)) (now (queue .exit)) ≡ turns 64 (eventsOf (now (t .entry))) room (machineOf form (now (t .entry))) (event .0) (going fresh (take (length (now (current .entry))) (now (state .entry))) (drop (length (now (current .entry))) (now (state .entry))) (now (outs .entry)) (now (queue .entry))) ⌝ }
+    requires { ⌜ Ready (now t) (now own) form × Sized form (now t) (now state) (now next) (now vars) (now queue) ⌝ }
+    ensures is { λ r. ⌜ going r (now (next .exit)) (now (vars .exit)) (now (outs .exit)) (now (queue .exit)) ≡ turns 64 (eventsOf (now (t .entry))) room (machineOf form (now (t .entry))) (event .0) (going fresh (take (length (now (next .entry))) (now (state .entry))) (drop (length (now (next .entry))) (now (state .entry))) (now (outs .entry)) (now (queue .entry))) ⌝ }
     ensures ready { λ r. ⌜ Ready (now (t .entry)) (now (own .exit)) form ⌝ }
 {
-    prepare(state, current, next, vars);
+    copies::load(next, state, 0);
+    copies::load(vars, state, next.len());
     go(
         form,
         t,
         own,
         event,
         room,
-        current,
         next,
         vars,
         outs,
@@ -150,41 +145,40 @@ fn attempt(
     )
 }
 
-// Whether a macrostep that was lent `lent` of `all` words for its outputs is not to be gone through again.
-fn is_last(n: Progress, lent: usize, all: usize) -> bool
-    ensures { λ r. ⌜ r ≡ last? n lent all ⌝ }
+// Whether a macrostep that was lent `lent` words for its outputs has ended well, and they hold all that it gave.
+fn is_told(n: Progress, lent: usize) -> bool
+    ensures { λ r. ⌜ r ≡ told? n lent ⌝ }
 {
     let stop = n.stop;
     if effects::has_stopped(stop) {
-        return true;
+        return false;
     }
-    if n.outs == 0 {
-        return true;
-    }
-    lent == all
+    2 * effects::wide(n.outs) <= lent
 }
 
-// A macrostep from `state`, which stays as it is. It is tried first with no room for its outputs lent, so that a refused one
-// leaves `outputs` as it was; only a finished one is gone through again to write them.
-pub fn run(
+// A macrostep from `state`, which stays as it is. The first time it is lent as many words for its outputs as `kept` has; they
+// are kept there and put back where it stops, or gives more and is gone through again with all words lent.
+fn pass(
     form: Form,
     t: &[u16],
     own: &mut [u16],
     state: &[u16],
     event: Trigger,
-    room: usize,
-    current: &mut [u16],
+    outputs: &mut [u16],
     next: &mut [u16],
     vars: &mut [u16],
-    outputs: &mut [u16],
+    kept: &mut [u16],
     queue: &mut [u16],
 ) -> Progress
-    requires { ⌜ Ready (now t) (now own) form × Sized (now state) (now current) (now next) (now vars) (now queue) × (room ≤ 256) ⌝ }
-    ensures ends { λ r. ⌜ Ends (now (outputs .entry)) r (now (current .exit)) (now (vars .exit)) (now (outputs .exit)) (macrostep (eventsOf (now (t .entry))) room (machineOf form (now (t .entry))) (event .0) (take (length (now (current .entry))) (now (state .entry))) (drop (length (now (current .entry))) (now (state .entry)))) ⌝ }
+    requires { ⌜ Ready (now t) (now own) form × Sized form (now t) (now state) (now next) (now vars) (now queue) × (length (now kept) ≤ length (now outputs)) ⌝ }
+    ensures ends { λ r. ⌜ Ends form (now (t .entry)) (now (state .entry)) (now (outputs .entry)) r (handed form (now (t .entry)) r (now (next .exit)) (now (vars .exit)) (now (state .entry))) (now (outputs .exit)) (macrostep (eventsOf (now (t .entry))) (roomFor (length (now (outputs .entry)))) (machineOf form (now (t .entry))) (event .0) (take (length (now (next .entry))) (now (state .entry))) (drop (length (now (next .entry))) (now (state .entry)))) ⌝ }
     ensures ready { λ r. ⌜ Ready (now (t .entry)) (now (own .exit)) form ⌝ }
 {
     let all = outputs.len();
-    let mut lent = 0;
+    let room = copies::room_of(all);
+    let first = kept.len();
+    copies::load(kept, outputs, 0);
+    let mut lent = first;
     loop {
         let n = attempt(
             form,
@@ -193,15 +187,97 @@ pub fn run(
             state,
             event,
             room,
-            current,
             next,
             vars,
             &mut outputs[..lent],
             queue,
         );
-        if is_last(n, lent, all) {
+        if is_told(n, lent) {
+            return n;
+        }
+        copies::load(&mut outputs[..first], kept, 0);
+        let stop = n.stop;
+        if effects::has_stopped(stop) {
             return n;
         }
         lent = all;
     }
+}
+
+// The words into the front of `state`, as a finished macrostep hands them back.
+fn lay_words(form: Form, t: &[u16], own: &[u16], words: &[u16], state: &mut [u16])
+    requires { ⌜ Ready (now t) (now own) form × (length (now words) ≡ wordsOf form (now t)) × (length (now words) ≤ length (now state)) ⌝ }
+    ensures { λ r. ⌜ now (state .exit) ≡ atRest form (now (t .entry)) (now (words .entry)) ++ drop (wordsOf form (now (t .entry))) (now (state .entry)) ⌝ }
+{
+    match form {
+        Form::Chart => lent::lay_rest(t, own, words, state),
+        Form::Flat => copies::lay(words, state),
+    }
+}
+
+// A macrostep on `state`, as `run` says it. The last four slices are scratch space.
+fn run_on(
+    form: Form,
+    t: &[u16],
+    own: &mut [u16],
+    state: &mut [u16],
+    event: Trigger,
+    outputs: &mut [u16],
+    next: &mut [u16],
+    vars: &mut [u16],
+    kept: &mut [u16],
+    queue: &mut [u16],
+) -> Progress
+    requires { ⌜ Ready (now t) (now own) form × Sized form (now t) (now state) (now next) (now vars) (now queue) × (length (now kept) ≤ length (now outputs)) ⌝ }
+    ensures { λ r. ⌜ Ends form (now (t .entry)) (now (state .entry)) (now (outputs .entry)) r (now (state .exit)) (now (outputs .exit)) (macrostep (eventsOf (now (t .entry))) (roomFor (length (now (outputs .entry)))) (machineOf form (now (t .entry))) (event .0) (take (length (now (next .entry))) (now (state .entry))) (drop (length (now (next .entry))) (now (state .entry)))) ⌝ }
+{
+    let n = pass(form, t, own, state, event, outputs, next, vars, kept, queue);
+    let stop = n.stop;
+    if effects::has_stopped(stop) {
+        return n;
+    }
+    lay_words(form, t, own, next, state);
+    copies::store(state, next.len(), vars);
+    n
+}
+
+// The smaller of the outputs' words and of those that are kept of them.
+fn first_of(lent: usize) -> usize
+    ensures { λ r. ⌜ (r ≤ lent) × (r ≤ 16) ⌝ }
+{
+    if lent < KEPT { lent } else { KEPT }
+}
+
+// A macrostep on `state`, whose first `words` words are its form's and whose others are variables. It becomes the state after
+// the macrostep, and `outputs` gets what was given; one that stops leaves both as they were.
+pub fn run(
+    form: Form,
+    t: &[u16],
+    own: &mut [u16],
+    words: usize,
+    state: &mut [u16],
+    event: Trigger,
+    outputs: &mut [u16],
+) -> Progress
+    requires { ⌜ Ready (now t) (now own) form × (words ≡ wordsOf form (now t)) × (words ≤ 24) × (words ≤ length (now state)) × (length (now state) ≤ words + 16) ⌝ }
+    ensures { λ r. ⌜ Ends form (now (t .entry)) (now (state .entry)) (now (outputs .entry)) r (now (state .exit)) (now (outputs .exit)) (macrostep (eventsOf (now (t .entry))) (roomFor (length (now (outputs .entry)))) (machineOf form (now (t .entry))) (event .0) (take words (now (state .entry))) (drop words (now (state .entry)))) ⌝ }
+{
+    let v = state.len() - words;
+    let first = first_of(outputs.len());
+    let mut next = [0u16; 24];
+    let mut vars = [0u16; 16];
+    let mut kept = [0u16; KEPT];
+    let mut queue = [0u16; 32];
+    run_on(
+        form,
+        t,
+        own,
+        state,
+        event,
+        outputs,
+        &mut next[..words],
+        &mut vars[..v],
+        &mut kept[..first],
+        &mut queue,
+    )
 }

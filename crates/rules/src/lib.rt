@@ -95,12 +95,10 @@ fn fire_all(
     m
 }
 
-// One microstep for trigger e. `current` are the state words at its start; `next` is to be current at its end. `marks` is
-// scratch space.
+// One microstep for trigger e, from the words of `next` to those of `next`. `marks` is scratch space.
 pub fn run(
     t: &[u16],
     marks: &mut [u16],
-    current: &[u16],
     e: Trigger,
     room: usize,
     next: &mut [u16],
@@ -110,9 +108,9 @@ pub fn run(
     n: Progress,
 ) -> Progress
     requires { ⌜ flatView (now t) .guards ≤ 16 * length (now marks) ⌝ }
-    ensures { λ r. ⌜ going r (now (next .exit)) (now (vars .exit)) (now (outs .exit)) (now (queue .exit)) ≡ doSteps room (flatMachine (flatView (now (t .entry))) (e .0) (now (current .entry)) (now (vars .entry))) (going n (now (next .entry)) (now (vars .entry)) (now (outs .entry)) (now (queue .entry))) ⌝ }
+    ensures { λ r. ⌜ going r (now (next .exit)) (now (vars .exit)) (now (outs .exit)) (now (queue .exit)) ≡ doSteps room (flatMachine (flatView (now (t .entry))) (e .0) (now (next .entry)) (now (vars .entry))) (going n (now (next .entry)) (now (vars .entry)) (now (outs .entry)) (now (queue .entry))) ⌝ }
 {
-    guards::evaluate(t, current, vars, marks);
+    guards::evaluate(t, next, vars, marks);
     fire_all(
         t,
         marks,

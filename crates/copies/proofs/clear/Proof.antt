@@ -7,7 +7,8 @@ use denote.Ref.{now}
 use lib.ListN.{length, length-set}
 use lib.Seq.{paste, paste-zero}
 use Rattle.effects.specs.Lent.{zeros}
-use Rattle.copies.proofs.Copied.{copy-next, copy-end, zeros-length, zeros-at}
+use Rattle.effects.proofs.Calls.{zeros-length, zeros-at}
+use Rattle.copies.proofs.Copied.{copy-next, copy-end}
 use Rattle.copies.proofs.clear.Statement.{statement}
 use Rattle.copies.proofs.clear.Tie as tie
 
@@ -39,7 +40,7 @@ loop-again c =
       ap length put ∙ length-set (l .to) (l .i) 0 ∙ l .inv .2,
       put
           ∙ copy-next to (s .at) (zeros room) (l .to) (l .i - s .at) (l .i) 0 (omega arith) (l .inv .3)
-          (omega arith) (omega arith) (sym (zeros-at room (l .i - s .at) (omega arith)))
+          (omega arith) (omega arith) (sym (zeros-at room (l .i - s .at)))
           ∙ ap (paste to (s .at) (zeros room)) next,
     )
 

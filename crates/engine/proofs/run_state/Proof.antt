@@ -1,52 +1,42 @@
--- `engine::run_state` meets its contract: a macrostep that stops is refused, and one that ends is handed back.
+-- `engine::run_state` meets its contract: a macrostep that stops is refused, and one that ends is told with its counts.
 -- Assumes nothing.
 use borrow.Author.Needs.{needs}
 use mathlib.Core.Path.{sym, _∙_}
 use native.Mathlib.Omega.{arith}
 use denote.Ref.{now}
-use lib.ListN.{length}
-use Rattle.chart.specs.View.{view}
+use Rattle.meaning.specs.State.{stateLength}
 use Rattle.engine.proofs.Finished.{run-stopped, run-done}
 use Rattle.engine.proofs.run_state.Statement.{statement}
 use Rattle.engine.proofs.run_state.Tie as tie
 
+run-requires : tie.Need-run-requires
+unfolding stateLength
+run-requires c κs =
+    let pre = c .before .before .before .before .before .before .before .pre in (
+      (pre .0, pre .1, pre .2),
+      pre .3,
+      pre .4,
+      omega (arith, pre .3, pre .5),
+      omega (arith, pre .3, pre .5, pre .0 .counts .variables .1),
+    )
+
 returns : tie.Need-returns
 returns c =
-    let ran = c .before .before .before .before .before .before .before .before .before .before .before .before .before .before .before in
-    let room = c .before .before .before .before .before .before .before .before .before .before .before .before .before .before .before .before .before .before .before .before .before .before .before .room-of in
-    let start = c .before .before .before .before .before .before .before .before .before .before .before .before .before .before .before .before .before .before .before .before .before .before .before .before .before .before .before .before .before .before .before .before in
-    let s = start .args in
-    run-stopped (view (now (s .t))) (now (s .state)) (now (s .outputs)) (ran .run .result) _ _ _ (s .event .0) (room .result)
-    (length (now (s .current))) (room .ensures .0) (start .pre .2) (ran .run .ensures .0)
-    (sym (c .before .before .has-stopped .ensures) ∙ c .before .if1 .taken) _ (c .refusal-of .ensures)
-
-hand-back-requires : tie.Need-hand-back-requires
-hand-back-requires c κs =
-    let start = c .before .before .before .before .before .before .before .before .before .before .before .before .before .before .before .before .before .before .before .before .before .before .before .before .before .before .before .before .before .before .before .before .before .before .before in
-    let sized = start .pre .3 in
-    let long = c .before .before .before .before .before .before .before .before .before .before .before .before .before .before .before .current .given ∙ start .pre .2 in (
-      start .pre .0,
-      c .before .before .before .before .before .before .before .before .before .before .before .before .before .before .before .before .before .before .run .ensures .1 .1,
-      omega (arith, sized .few, start .pre .2),
-      long,
-      omega (arith, sized .state-long, start .pre .2, c .before .before .before .before .before .before .before .before .before .before .before .vars .given),
-    )
+    let s = c .before .before .before .before .before .before .before .before .before .before .before .before .before .before .before .before .before .args in
+    let ran = c .before .before .before .before .before .before .before .before .before .run in
+    run-stopped (now (s .t)) (now (s .state)) (now (s .outputs)) (ran .result) _ _ (s .event .0) (s .ors) (c .before .before .before .before .before .before .before .before .before .before .before .before .before .before .before .before .before .pre .3)
+    (ran .ensures) (sym (c .before .before .has-stopped .ensures) ∙ c .before .if1 .taken) _ (c .refusal-of .ensures)
 
 returns-2 : tie.Need-returns-2
 returns-2 c =
-    let ran = c .before .before .before .before .before .before .before .before .before .before .before .before .before .before .before .before .before .before .before .before .before .before in
-    let room = c .before .before .before .before .before .before .before .before .before .before .before .before .before .before .before .before .before .before .before .before .before .before .before .before .before .before .before .before .before .before .room-of in
-    let start = c .before .before .before .before .before .before .before .before .before .before .before .before .before .before .before .before .before .before .before .before .before .before .before .before .before .before .before .before .before .before .before .before .before .before .before .before .before .before .before in
-    let s = start .args in
-    run-done (view (now (s .t))) (now (s .state)) (now (s .outputs)) (ran .run .result) _ _ _ (s .event .0) (room .result)
-    (length (now (s .current))) (room .ensures .0) (start .pre .2) (ran .run .ensures .0)
-    (sym (c .before .before .before .before .before .before .before .before .before .has-stopped .ensures) ∙ c .before .before .before .before .before .before .before .before .if1 .left) _ (c .counts-of .ensures) _ (c .before .before .before .hand-back .ensures)
+    let s = c .before .before .before .before .before .before .before .before .before .before .before .before .before .before .before .before .before .args in
+    let ran = c .before .before .before .before .before .before .before .before .before .run in
+    run-done (now (s .t)) (now (s .state)) (now (s .outputs)) (ran .result) _ _ (s .event .0) (s .ors) (c .before .before .before .before .before .before .before .before .before .before .before .before .before .before .before .before .before .pre .3)
+    (ran .ensures) (sym (c .before .before .has-stopped .ensures) ∙ c .before .if1 .left) _ (c .counts-of .ensures)
 
 pub run-state-spec : {M : Type 1} → statement M
 run-state-spec =
     tie.close
     (tie.spec
-    (λ c κs. search needs) (λ c κs. search needs) (λ c κs. search needs) (λ c κs. search needs) (λ c. search needs)
-    (λ c. search needs) (λ c. search needs) (λ c. search needs) (λ c. search needs) (λ c. search needs)
-    (λ c. search needs) returns hand-back-requires (λ c κs. search needs) (λ c. search needs) (λ c. search needs)
-    (λ c. search needs) (λ c. search needs) (λ c. search needs) (λ c. search needs) (λ c. search needs) returns-2)
+    run-requires (λ c κs. search needs) (λ c κs. search needs) (λ c. search needs) (λ c. search needs) (λ c. search needs)
+    returns (λ c κs. search needs) (λ c. search needs) (λ c. search needs) (λ c. search needs) returns-2)

@@ -10,14 +10,14 @@ run-accepted-requires : tie.Need-run-accepted-requires
 run-accepted-requires c κs =
     let check = c .before .before .before .before in
     let t = now (check .before .before .before .before .args .t) in
-    accepted t (check .check .result) (check .check .ensures) (c .before .before .enum-told .given .1)
+    accepted t (check .checked .result) (check .checked .ensures) (c .before .before .enum-told .given .1)
 
 returns : tie.Need-returns
 returns c =
     let check = c .before .before .before in
     let s = check .before .before .before .before .args in
     let known = c .before .verdict .given in
-    run-refused (now (s .t)) (check .check .result) (check .check .ensures) (now (s .state)) (s .event) (now (s .outputs))
+    run-refused (now (s .t)) (check .checked .result) (check .checked .ensures) (now (s .state)) (s .event) (now (s .outputs))
     (known .0 .0) (known .1)
 
 returns-2 : tie.Need-returns-2
@@ -27,7 +27,7 @@ returns-2 c =
     let check = told .before .before in
     let s = check .before .before .before .before .args in
     ran .run-accepted .ensures
-    ∙ sym (run-accepted (now (s .t)) (check .check .result) (check .check .ensures) (now (s .state)) (s .event)
+    ∙ sym (run-accepted (now (s .t)) (check .checked .result) (check .checked .ensures) (now (s .state)) (s .event)
     (now (s .outputs)) (told .enum-told .given .1))
 
 pub run-spec : {M : Type 1} → statement M

@@ -1,53 +1,44 @@
--- `flat_engine::run_state` meets its contract: a macrostep that stops is refused, and one that ends is handed back.
+-- `flat_engine::run_state` meets its contract: a macrostep that stops is refused, and one that ends is told with its counts.
 -- Assumes nothing.
 use borrow.Author.Needs.{needs}
-use Prim.Native.Nat.{_+_}
-use mathlib.Core.Path.{sym, ap₂, _∙_}
+use mathlib.Core.Path.{sym, _∙_}
 use native.Mathlib.Omega.{arith}
 use denote.Ref.{now}
-use Rattle.flat.specs.View.{flatView}
+use Rattle.flat_meaning.specs.State.{flatLength}
 use Rattle.flat_engine.proofs.Finished.{run-stopped, run-done}
 use Rattle.flat_engine.proofs.run_state.Statement.{statement}
 use Rattle.flat_engine.proofs.run_state.Tie as tie
 
+run-requires : tie.Need-run-requires
+unfolding flatLength
+run-requires c κs =
+    let pre = c .before .before .before .before .before .before .before .before .pre in
+    let counts = pre .0 .counts in
+    let is = c .before .before .before .number .ensures .0 in (
+      (pre .0, pre .1),
+      is,
+      omega (arith, is, counts .machines .1),
+      omega (arith, is, pre .2),
+      omega (arith, is, pre .2, counts .variables .1),
+    )
+
 returns : tie.Need-returns
 returns c =
-    let stopped = c .before .before in
-    let ran = stopped .before .before .before .before .before .before .before .before .before .before .before .before .before in
-    let room = ran .before .before .before .before .before .before .before .before in
-    let start = room .before .before .before .before .before .before .before .before .before in
-    let s = start .args in
-    run-stopped (now (s .state)) (now (s .outputs)) (ran .run .result) _ _ _ (flatView (now (s .t))) (s .event .0)
-    (room .room-of .result) _ (room .room-of .ensures .0) (start .pre .2) (ran .run .ensures .0)
-    (sym (stopped .has-stopped .ensures) ∙ c .before .if1 .taken) _ (c .refusal-of .ensures)
-
-hand-back-requires : tie.Need-hand-back-requires
-hand-back-requires c κs =
-    let vars = c .before .before .before .before .before .before .before .before .before .before in
-    let current = vars .before .before .before .before in
-    let start = current .before .before .before .before .before .before .before .before .before .before .before .before .before .before .before .before .before .before .before .before in
-    let sized = start .pre .3 in
-    let words = current .current .given in
-    (omega (arith, words, sized .few), ap₂ _+_ words (vars .vars .given) ∙ sym (sized .state-long))
+    let s = c .before .before .before .before .before .before .before .before .before .before .before .before .before .before .before .before .before .before .args in
+    let ran = c .before .before .before .before .before .before .before .before .before .run in
+    run-stopped (now (s .t)) (now (s .state)) (now (s .outputs)) (ran .result) _ _ (s .event .0) _ (c .before .before .before .before .before .before .before .before .before .before .before .before .before .number .ensures .0)
+    (ran .ensures) (sym (c .before .before .has-stopped .ensures) ∙ c .before .if1 .taken) _ (c .refusal-of .ensures)
 
 returns-2 : tie.Need-returns-2
 returns-2 c =
-    let handed = c .before .before .before in
-    let left = handed .before .before .before .before in
-    let stopped = left .before in
-    let ran = stopped .before .before .before .before .before .before .before .before .before .before .before .before .before in
-    let room = ran .before .before .before .before .before .before .before .before in
-    let start = room .before .before .before .before .before .before .before .before .before in
-    let s = start .args in
-    run-done (now (s .state)) (now (s .outputs)) (ran .run .result) _ _ _ (flatView (now (s .t))) (s .event .0)
-    (room .room-of .result) _ (room .room-of .ensures .0) (start .pre .2) (ran .run .ensures .0)
-    (sym (stopped .has-stopped .ensures) ∙ left .if1 .left) _ (c .counts-of .ensures) _ (handed .hand-back .ensures)
+    let s = c .before .before .before .before .before .before .before .before .before .before .before .before .before .before .before .before .before .before .args in
+    let ran = c .before .before .before .before .before .before .before .before .before .run in
+    run-done (now (s .t)) (now (s .state)) (now (s .outputs)) (ran .result) _ _ (s .event .0) _ (c .before .before .before .before .before .before .before .before .before .before .before .before .before .number .ensures .0)
+    (ran .ensures) (sym (c .before .before .has-stopped .ensures) ∙ c .before .if1 .left) _ (c .counts-of .ensures)
 
 pub run-state-spec : {M : Type 1} → statement M
 run-state-spec =
     tie.close
     (tie.spec
-    (λ c κs. search needs) (λ c κs. search needs) (λ c κs. search needs) (λ c κs. search needs) (λ c. search needs)
-    (λ c. search needs) (λ c. search needs) (λ c. search needs) (λ c. search needs) (λ c. search needs)
-    (λ c. search needs) returns hand-back-requires (λ c κs. search needs) (λ c. search needs) (λ c. search needs)
-    (λ c. search needs) (λ c. search needs) (λ c. search needs) (λ c. search needs) (λ c. search needs) returns-2)
+    (λ c κs. search needs) run-requires (λ c κs. search needs) (λ c κs. search needs) (λ c. search needs) (λ c. search needs)
+    (λ c. search needs) returns (λ c κs. search needs) (λ c. search needs) (λ c. search needs) (λ c. search needs) returns-2)

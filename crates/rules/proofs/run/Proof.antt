@@ -10,7 +10,7 @@ returns : tie.Need-returns
 returns c =
     let s = c .before .before .before .before .before .before .before .before .before .before .before .before .before .before .before .before .before .before .before .before .before .before .before .before .before .before .before .args in
     let guards = c .before .before .before .before .before .before .before .before .before .before .before .before .before .before .before .before .before .evaluate in
-    machine-runs (flatView (now (s .t))) (now (s .current)) (now (s .vars)) _ (guards .ensures)
+    machine-runs (flatView (now (s .t))) (now (s .next)) (now (s .vars)) _ (guards .ensures)
     (s .room) _ (s .e .0) _ _ (c .before .before .before .before .before .before .before .before .before .before .before .before .before .wide .ensures .0) (c .before .before .before .before .before .before .before .before .fire-all .ensures)
 
 pub run-spec : {M : Type 1} → statement M
