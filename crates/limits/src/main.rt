@@ -119,7 +119,7 @@ fn lay_chart(t: &mut [u16], limit: u16, size: u16)
 fn put_answer(text: &mut Text, at: usize, limit: u16, size: u16, verdict: Verdict) -> usize {
     let at = shell::put_number(text, at, limit as u32);
     let at = shell::put_field(text, at, size as u32);
-    shell::put_field(text, at, shell::number_of(verdict))
+    shell::put_field(text, at, answers::number_of(verdict))
 }
 
 // Puts the rest of a line.
@@ -135,8 +135,8 @@ fn run_limit(t: &[u16], limit: u16, size: u16, text: &mut Text, at: usize) -> us
     let mut outputs = [0u16; 600];
     olivrescum::start_chart(t, &mut state);
     let run = olivrescum::run_chart(t, &mut state, 0, &mut outputs);
-    let counts = shell::counts_of(run);
-    let at = put_answer(text, at, limit, size, shell::verdict_of(run));
+    let counts = answers::counts_of(run);
+    let at = put_answer(text, at, limit, size, answers::verdict_of(run));
     put_rest(text, at, counts.microsteps, counts.outputs)
 }
 

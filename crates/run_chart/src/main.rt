@@ -64,9 +64,9 @@ fn put_outputs(text: &mut Text, at: usize, outputs: &[u16]) -> usize {
 
 // Puts the line of an event: what the run said, and the outputs that it wrote at the start of `outputs`.
 fn put_run(text: &mut Text, at: usize, event: u8, run: engine::ChartRun, outputs: &[u16]) -> usize {
-    let counts = shell::counts_of(run);
+    let counts = answers::counts_of(run);
     let at = shell::put_number(text, at, event as u32);
-    let at = shell::put_field(text, at, shell::number_of(shell::verdict_of(run)));
+    let at = shell::put_field(text, at, answers::number_of(answers::verdict_of(run)));
     let at = shell::put_counts(text, at, counts);
     let written = shell::lent(2 * counts.outputs as usize, outputs);
     let at = put_outputs(text, at, &outputs[..written]);
@@ -143,15 +143,15 @@ fn put_state(text: &mut Text, at: usize, state: &[u16]) -> usize {
 
 // Puts the line of a refusal: number and place.
 fn put_refusal(text: &mut Text, verdict: table::Verdict) -> usize {
-    let at = shell::put_number(text, 0, shell::number_of(verdict));
-    let at = shell::put_field(text, at, shell::place_of(verdict));
+    let at = shell::put_number(text, 0, answers::number_of(verdict));
+    let at = shell::put_field(text, at, answers::place_of(verdict));
     shell::put_newline(text, at)
 }
 
 // Starts the chart, and runs the events where its table is not refused. Answers how many bytes of text wait.
 fn run(t: &[u16], state: &mut [u16], text: &mut Text) -> usize {
     let verdict = olivrescum::start_chart(t, state);
-    if shell::number_of(verdict) != 0 {
+    if answers::number_of(verdict) != 0 {
         return put_refusal(text, verdict);
     }
     let at = run_input(t, state, text);

@@ -38,8 +38,8 @@ fn case_of(head: &[u16; 6]) -> Case {
 // Puts the call's number, and the number and place of its answer.
 fn put_answer(text: &mut Text, at: usize, call: u32, verdict: Verdict) -> usize {
     let at = shell::put_number(text, at, call);
-    let at = shell::put_field(text, at, shell::number_of(verdict));
-    shell::put_field(text, at, shell::place_of(verdict))
+    let at = shell::put_field(text, at, answers::number_of(verdict));
+    shell::put_field(text, at, answers::place_of(verdict))
 }
 
 // Calls 1 and 4: check a chart or a flat table. Prints call, answer and place.
@@ -110,8 +110,8 @@ fn run_chart_in(
 
 // Puts what a run of a chart says: call, answer, place and the counts.
 fn put_run(text: &mut Text, at: usize, run: engine::ChartRun) -> usize {
-    let counts = shell::counts_of(run);
-    let at = put_answer(text, at, 3, shell::verdict_of(run));
+    let counts = answers::counts_of(run);
+    let at = put_answer(text, at, 3, answers::verdict_of(run));
     let at = shell::put_counts(text, at, counts);
     shell::put_field(text, at, counts.outputs)
 }
@@ -146,8 +146,8 @@ fn run_flat_in(
 
 // Puts what a run of a flat table says: call, answer, place and the counts.
 fn put_flat_run(text: &mut Text, at: usize, run: flat_engine::FlatRun) -> usize {
-    let counts = shell::flat_counts_of(run);
-    let at = put_answer(text, at, 6, shell::flat_verdict_of(run));
+    let counts = answers::flat_counts_of(run);
+    let at = put_answer(text, at, 6, answers::flat_verdict_of(run));
     let at = shell::put_field(text, at, counts.microsteps);
     let at = shell::put_field(text, at, counts.fired);
     shell::put_field(text, at, counts.outputs)
@@ -199,7 +199,7 @@ fn put_flattening(text: &mut Text, at: usize, verdict: Verdict, checked: u32) ->
 
 // Checks the flat table, starts both tables, and runs each event on both.
 fn run_both(events: u32, chart: &[u16], flat: &[u16], text: &mut Text, at: usize) -> usize {
-    let checked = shell::number_of(olivrescum::check_flat(flat));
+    let checked = answers::number_of(olivrescum::check_flat(flat));
     let at = put_flattening(text, at, Verdict::Done, checked);
     let machines = words::number(flat, flat::MACHINES);
     let mut state = [0u16; 47];
@@ -300,16 +300,16 @@ fn run_pair_in(
     let flat_run = olivrescum::run_flat(flat, flat_state, event, flat_outputs);
     let at = put_flat_event(text, at, flat_run, flat_outputs);
     let at = shell::put_field(text, at, checksum_behind(flat_state, machines));
-    let few = is_within_bound(shell::counts_of(run), shell::flat_counts_of(flat_run));
+    let few = is_within_bound(answers::counts_of(run), answers::flat_counts_of(flat_run));
     let at = shell::put_field(text, at, few as u32);
     shell::put_newline(text, at)
 }
 
 // Puts the line of an event as far as the outputs: a dot, answer, microsteps, number of outputs, and their checksum.
 fn put_flat_event(text: &mut Text, at: usize, run: flat_engine::FlatRun, outputs: &[u16]) -> usize {
-    let counts = shell::flat_counts_of(run);
+    let counts = answers::flat_counts_of(run);
     let at = shell::put_byte(text, at, b'.');
-    let at = shell::put_field(text, at, shell::number_of(shell::flat_verdict_of(run)));
+    let at = shell::put_field(text, at, answers::number_of(answers::flat_verdict_of(run)));
     let at = shell::put_field(text, at, counts.microsteps);
     let at = shell::put_field(text, at, counts.outputs);
     shell::put_field(text, at, checksum(outputs))

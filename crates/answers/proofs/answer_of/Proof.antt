@@ -1,7 +1,7 @@
 -- Done is 0 at 0, and a refusal's answer is `refusal_answer`'s. Assumes nothing.
 use borrow.Author.Needs.{needs}
-use Rattle.shell.proofs.answer_of.Statement.{statement}
-use Rattle.shell.proofs.answer_of.Tie as tie
+use Rattle.answers.proofs.answer_of.Statement.{statement}
+use Rattle.answers.proofs.answer_of.Tie as tie
 
 returns : tie.Need-returns
 returns c = rw (c .enum-told .given .1)

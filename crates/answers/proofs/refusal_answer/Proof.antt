@@ -1,8 +1,8 @@
 -- In each arm the refusal is known, and the arm's number and place are the row that `refusalTold` has for it.
 -- Assumes nothing.
 use borrow.Author.Needs.{needs}
-use Rattle.shell.proofs.refusal_answer.Statement.{statement}
-use Rattle.shell.proofs.refusal_answer.Tie as tie
+use Rattle.answers.proofs.refusal_answer.Statement.{statement}
+use Rattle.answers.proofs.refusal_answer.Tie as tie
 
 pub refusal-answer-spec : {M : Type 1} → statement M
 refusal-answer-spec = tie.close (tie.spec

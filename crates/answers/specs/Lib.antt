@@ -1,0 +1,2 @@
+-- `Parts`: the parts of what a run or a flattening says.
+pub mod Parts
