@@ -4,6 +4,7 @@ ghost use mathlib.Core.Bool.{false, cond};
 ghost use Prim.Native.Nat.{ℕ, suc, _<_, _≤_};
 ghost use lib.ListN.{length, getD};
 ghost use Rattle.chart.specs.View.{view};
+ghost use Rattle.chart.specs.Readable.{Readable};
 ghost use Rattle.chart_rules.specs.Rules.{ChartRules};
 ghost use Rattle.states.specs.Cells.{cells};
 ghost use Rattle.meaning.specs.Active.{isOr, child, activeAt, active};
@@ -15,6 +16,7 @@ use states::StateSet;
 
 // Whether state j is below a.
 pub fn is_beneath(t: &[u16], a: usize, j: usize) -> bool
+    requires { ⌜ Readable (now t) ⌝ }
     ensures { λ r. ⌜ r ≡ beneath (view (now (t .entry))) a j ⌝ }
 {
     words::both(chart::is_within(t, a, j), a != j)
@@ -22,7 +24,7 @@ pub fn is_beneath(t: &[u16], a: usize, j: usize) -> bool
 
 // One more, where state k is an or-state.
 fn rank_after(t: &[u16], k: usize, r: u16) -> u16
-    requires { ⌜ (k < 48) × (r < 48) ⌝ }
+    requires { ⌜ Readable (now t) × (k < view (now t) .states) × (r < 48) ⌝ }
     ensures { λ x. ⌜ x ≡ cond (isOr (view (now (t .entry))) k) (suc r) r ⌝ }
 {
     if chart::is_and(t, k) {
@@ -38,7 +40,7 @@ pub fn or_ranks(t: &[u16], ranks: &mut [u16]) -> usize
     ensures few { λ r. ⌜ r ≤ 24 ⌝ }
     ensures ranks { λ r. ⌜ Ranks (view (now (t .entry))) (now (ranks .exit)) ⌝ }
 {
-    let n = words::number(t, chart::STATES);
+    let n = chart::head(t, chart::STATES);
     let mut r: u16 = 0;
     let mut k = 0;
     while k < n {
@@ -67,7 +69,7 @@ fn is_active_at(t: &[u16], ranks: &[u16], current: &[u16], acts: StateSet, j: us
         return true;
     }
     let up = chart::state_word(t, j, chart::PARENT);
-    if !states::has(acts, up) {
+    if !states::has_in(acts, up) {
         return false;
     }
     if chart::is_and(t, up) {
@@ -81,11 +83,11 @@ pub fn active_set(t: &[u16], ranks: &[u16], current: &[u16]) -> StateSet
     requires { ⌜ ChartRules (now t) × Ranks (view (now t)) (now ranks) ⌝ }
     ensures { λ r. ⌜ ((j : ℕ) → getD (cells r) j false ≡ active (view (now (t .entry))) (now (current .entry)) j) ⌝ }
 {
-    let n = words::number(t, chart::STATES);
+    let n = chart::head(t, chart::STATES);
     let mut acts = states::none();
     let mut j = 0;
     while j < n {
-        acts = states::with(acts, j, is_active_at(t, ranks, current, acts, j));
+        acts = states::grown(acts, j, is_active_at(t, ranks, current, acts, j));
         j += 1;
     }
     acts
@@ -93,7 +95,7 @@ pub fn active_set(t: &[u16], ranks: &[u16], current: &[u16]) -> StateSet
 
 // Whether or-state o holds its latest child while it sleeps.
 pub fn keeps_word(t: &[u16], o: usize) -> bool
-    requires { ⌜ o < 1000000 ⌝ }
+    requires { ⌜ Readable (now t) × (o < view (now t) .states) ⌝ }
     ensures { λ r. ⌜ r ≡ keepsWord (view (now (t .entry))) o ⌝ }
 {
     chart::state_word(t, o, chart::KIND) == 1

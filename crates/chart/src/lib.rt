@@ -1,8 +1,11 @@
-// The chart table: its layout, the reading of its records, and its tree of states. It judges nothing: every function
-// here takes any words at all. specs/View.antt says what chart the words show.
+// The chart table: its layout, the reading of its records, and its tree of states. It judges nothing: every function here
+// takes any table whose sections lie inside it, and so tests no index. specs/View.antt says what chart the words show,
+// specs/Readable.antt what a table must be to be read.
 ghost use mathlib.Core.Path.{_≡_};
 ghost use Prim.Native.Nat.{_+_, _*_, _<_};
+ghost use lib.ListN.{length};
 ghost use Rattle.chart.specs.View.{at, view, isAnd, andState?, childOf?, stateAt, transitionAt};
+ghost use Rattle.chart.specs.Readable.{Readable};
 ghost use Rattle.chart.specs.Literals.{literalOf, literalIn};
 ghost use Rattle.chart.specs.Tree.{within, meeting, apart};
 
@@ -59,49 +62,58 @@ pub const DOES: usize = 4;
 
 pub const AIMS: usize = 6;
 
+// Header word i: a count, or where a section begins.
+pub fn head(t: &[u16], i: usize) -> usize
+    requires { ⌜ Readable (now t) × (i < 16) ⌝ }
+    ensures is { λ x. ⌜ x ≡ at (now (t .entry)) i ⌝ }
+    ensures small { λ x. ⌜ x < 65536 ⌝ }
+{
+    words::number_in(t, i)
+}
+
 // Where the words of state k begin.
 pub fn state_at(t: &[u16], k: usize) -> usize
-    requires { ⌜ k < 1000000 ⌝ }
+    requires { ⌜ Readable (now t) × (k < view (now t) .states) ⌝ }
     ensures is { λ x. ⌜ x ≡ stateAt (now (t .entry)) k ⌝ }
-    ensures small { λ x. ⌜ x < 65536 + 7 * k ⌝ }
+    ensures inside { λ x. ⌜ x + 6 < length (now (t .entry)) ⌝ }
 {
-    words::number(t, STATES_AT) + 7 * k
+    head(t, STATES_AT) + 7 * k
 }
 
 // Where the words of transition k begin.
 pub fn transition_at(t: &[u16], k: usize) -> usize
-    requires { ⌜ k < 1000000 ⌝ }
+    requires { ⌜ Readable (now t) × (k < view (now t) .transitions) ⌝ }
     ensures is { λ x. ⌜ x ≡ transitionAt (now (t .entry)) k ⌝ }
-    ensures small { λ x. ⌜ x < 65536 + 8 * k ⌝ }
+    ensures inside { λ x. ⌜ x + 7 < length (now (t .entry)) ⌝ }
 {
-    words::number(t, TRANSITIONS_AT) + 8 * k
+    head(t, TRANSITIONS_AT) + 8 * k
 }
 
 // Word r of state k.
 pub fn state_word(t: &[u16], k: usize, r: usize) -> usize
-    requires { ⌜ (k < 1000000) × (r < 7) ⌝ }
+    requires { ⌜ Readable (now t) × (k < view (now t) .states) × (r < 7) ⌝ }
     ensures is { λ x. ⌜ x ≡ at (now (t .entry)) (stateAt (now (t .entry)) k + r) ⌝ }
     ensures small { λ x. ⌜ x < 65536 ⌝ }
 {
-    words::number(t, state_at(t, k) + r)
+    words::number_in(t, state_at(t, k) + r)
 }
 
 // Word r of transition k.
 pub fn transition_word(t: &[u16], k: usize, r: usize) -> usize
-    requires { ⌜ (k < 1000000) × (r < 8) ⌝ }
+    requires { ⌜ Readable (now t) × (k < view (now t) .transitions) × (r < 8) ⌝ }
     ensures is { λ x. ⌜ x ≡ at (now (t .entry)) (transitionAt (now (t .entry)) k + r) ⌝ }
     ensures small { λ x. ⌜ x < 65536 ⌝ }
 {
-    words::number(t, transition_at(t, k) + r)
+    words::number_in(t, transition_at(t, k) + r)
 }
 
 // Target word i.
 pub fn target_word(t: &[u16], i: usize) -> usize
-    requires { ⌜ i < 1000000 ⌝ }
+    requires { ⌜ Readable (now t) × (i < view (now t) .targets) ⌝ }
     ensures is { λ x. ⌜ x ≡ view (now (t .entry)) .target i ⌝ }
     ensures small { λ x. ⌜ x < 65536 ⌝ }
 {
-    words::number(t, words::number(t, TARGETS_AT) + i)
+    words::number_in(t, head(t, TARGETS_AT) + i)
 }
 
 // What a literal asks: a state active or not, a variable at least or less than a number.
@@ -124,22 +136,40 @@ fn literal_of(kind: u16, a: u16, b: u16) -> Literal
     }
 }
 
+// Where the words of literal i begin.
+pub fn literal_begin(t: &[u16], i: usize) -> usize
+    requires { ⌜ Readable (now t) × (i < view (now t) .literals) ⌝ }
+    ensures is { λ x. ⌜ x ≡ at (now (t .entry)) 14 + 3 * i ⌝ }
+    ensures inside { λ x. ⌜ x + 2 < length (now (t .entry)) ⌝ }
+{
+    head(t, LITERALS_AT) + 3 * i
+}
+
 // Literal i.
 pub fn literal_at(t: &[u16], i: usize) -> Literal
-    requires { ⌜ i < 1000000 ⌝ }
+    requires { ⌜ Readable (now t) × (i < view (now t) .literals) ⌝ }
     ensures { λ r. ⌜ r ≡ literalIn (view (now (t .entry)) .literal i) ⌝ }
 {
-    let at = words::number(t, LITERALS_AT) + 3 * i;
+    let at = literal_begin(t, i);
     literal_of(
-        words::word(t, at),
-        words::word(t, at + 1),
-        words::word(t, at + 2),
+        words::word_in(t, at),
+        words::word_in(t, at + 1),
+        words::word_in(t, at + 2),
     )
+}
+
+// Where the words of item i begin.
+pub fn item_begin(t: &[u16], i: usize) -> usize
+    requires { ⌜ Readable (now t) × (i < view (now t) .items) ⌝ }
+    ensures is { λ x. ⌜ x ≡ at (now (t .entry)) 15 + 3 * i ⌝ }
+    ensures inside { λ x. ⌜ x + 2 < length (now (t .entry)) ⌝ }
+{
+    head(t, ITEMS_AT) + 3 * i
 }
 
 // Whether state k is an and-state.
 pub fn is_and(t: &[u16], k: usize) -> bool
-    requires { ⌜ k < 1000000 ⌝ }
+    requires { ⌜ Readable (now t) × (k < view (now t) .states) ⌝ }
     ensures { λ r. ⌜ r ≡ isAnd (view (now (t .entry))) k ⌝ }
 {
     state_word(t, k, KIND) == 2
@@ -147,26 +177,33 @@ pub fn is_and(t: &[u16], k: usize) -> bool
 
 // Whether a is the number of an and-state.
 pub fn is_and_state(t: &[u16], a: usize) -> bool
-    requires { ⌜ a < 1000000 ⌝ }
+    requires { ⌜ Readable (now t) ⌝ }
     ensures { λ r. ⌜ r ≡ andState? (view (now (t .entry))) a ⌝ }
 {
-    words::both(a < words::number(t, STATES), is_and(t, a))
+    if a < head(t, STATES) {
+        return is_and(t, a);
+    }
+    false
 }
 
 // Whether j is the number of a child of state k.
 pub fn is_child(t: &[u16], k: usize, j: usize) -> bool
-    requires { ⌜ j < 1000000 ⌝ }
+    requires { ⌜ Readable (now t) ⌝ }
     ensures { λ r. ⌜ r ≡ childOf? (view (now (t .entry))) k j ⌝ }
 {
-    words::both(j < words::number(t, STATES), state_word(t, j, PARENT) == k)
+    if j < head(t, STATES) {
+        return state_word(t, j, PARENT) == k;
+    }
+    false
 }
 
 // The nearest state that is one of a and b or above it, and so for the other; 0 where there is none.
 fn meeting_of(t: &[u16], a: usize, b: usize) -> usize
+    requires { ⌜ Readable (now t) ⌝ }
     ensures is { λ r. ⌜ r ≡ meeting (view (now (t .entry))) a b ⌝ }
-    ensures small { λ r. ⌜ r < 65536 ⌝ }
+    ensures small { λ r. ⌜ r < view (now (t .entry)) .states ⌝ }
 {
-    let n = words::number(t, STATES);
+    let n = head(t, STATES);
     if n <= a {
         return 0;
     }
@@ -195,9 +232,10 @@ fn meeting_of(t: &[u16], a: usize, b: usize) -> usize
 
 // Whether state j is a, or below it.
 pub fn is_within(t: &[u16], a: usize, j: usize) -> bool
+    requires { ⌜ Readable (now t) ⌝ }
     ensures { λ r. ⌜ r ≡ within (view (now (t .entry))) a j ⌝ }
 {
-    if words::number(t, STATES) <= j {
+    if head(t, STATES) <= j {
         return false;
     }
     let mut x = j;
@@ -213,6 +251,7 @@ pub fn is_within(t: &[u16], a: usize, j: usize) -> bool
 
 // Whether two targets are apart: distinct, neither above the other, and met in an and-state.
 pub fn are_apart(t: &[u16], a: usize, b: usize) -> bool
+    requires { ⌜ Readable (now t) ⌝ }
     ensures { λ r. ⌜ r ≡ apart (view (now (t .entry))) a b ⌝ }
 {
     let m = meeting_of(t, a, b);

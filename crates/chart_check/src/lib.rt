@@ -3,8 +3,10 @@
 ghost use mathlib.Core.Path.{_≡_};
 ghost use Prim.Native.Nat.{_+_, _<_, _≤_};
 ghost use Rattle.table.specs.Answers.{told};
-ghost use Rattle.table.specs.Check.{ruleAt, lowestBad};
+ghost use Rattle.table.specs.Span.{Inside};
+ghost use Rattle.table.specs.Check.{ruleAt, lowestBad, KeptBefore};
 ghost use Rattle.chart.specs.View.{view};
+ghost use Rattle.chart.specs.Readable.{Readable};
 ghost use Rattle.chart_rules.specs.Rules.{aim};
 ghost use Rattle.chart_rules.specs.Tests.{apartFrom?, goodTarget?, goodTargets?};
 ghost use Rattle.chart_check.specs.Answer.{chartRules, chartAnswer};
@@ -21,7 +23,7 @@ use words::number;
 
 // Target i of transition k, counted within its span.
 fn aim_of(t: &[u16], k: usize, i: usize) -> usize
-    requires { ⌜ (k < 200000) × (i < 200000) ⌝ }
+    requires { ⌜ Readable (now t) × (k < view (now t) .transitions) × Inside (view (now t) .aims k) (view (now t) .targets) × (i < view (now t) .aims k .count) ⌝ }
     ensures is { λ r. ⌜ r ≡ aim (view (now (t .entry))) k i ⌝ }
     ensures small { λ r. ⌜ r < 65536 ⌝ }
 {
@@ -30,7 +32,7 @@ fn aim_of(t: &[u16], k: usize, i: usize) -> usize
 
 // Rule 9: target i of transition k is apart from those before it.
 fn apart_from(t: &[u16], k: usize, i: usize) -> bool
-    requires { ⌜ (k < 200000) × (i < 200000) ⌝ }
+    requires { ⌜ Readable (now t) × (k < view (now t) .transitions) × Inside (view (now t) .aims k) (view (now t) .targets) × (i < view (now t) .aims k .count) ⌝ }
     ensures { λ r. ⌜ r ≡ apartFrom? (view (now (t .entry))) k i ⌝ }
 {
     let this = aim_of(t, k, i);
@@ -46,7 +48,7 @@ fn apart_from(t: &[u16], k: usize, i: usize) -> bool
 
 // Rule 9 for target i of transition k.
 fn good_target(t: &[u16], k: usize, i: usize) -> bool
-    requires { ⌜ (k < 200000) × (i < 200000) ⌝ }
+    requires { ⌜ Readable (now t) × (k < view (now t) .transitions) × Inside (view (now t) .aims k) (view (now t) .targets) × (i < view (now t) .aims k .count) ⌝ }
     ensures { λ r. ⌜ r ≡ goodTarget? (view (now (t .entry))) k i ⌝ }
 {
     let this = aim_of(t, k, i);
@@ -56,12 +58,12 @@ fn good_target(t: &[u16], k: usize, i: usize) -> bool
     apart_from(t, k, i)
 }
 
-// Rule 9.
+// Rule 9, where transition k's targets keep rule 5.
 fn good_targets(t: &[u16], k: usize) -> bool
-    requires { ⌜ k < 200000 ⌝ }
+    requires { ⌜ Readable (now t) × (k < view (now t) .transitions) × Inside (view (now t) .aims k) (view (now t) .targets) ⌝ }
     ensures { λ r. ⌜ r ≡ goodTargets? (view (now (t .entry))) k ⌝ }
 {
-    let count = number(t, chart::transition_at(t, k) + chart::AIMS + 1);
+    let count = chart::transition_word(t, k, chart::AIMS + 1);
     let mut i = 0;
     while i < count {
         if !good_target(t, k, i) {
@@ -72,9 +74,9 @@ fn good_targets(t: &[u16], k: usize) -> bool
     true
 }
 
-// Whether place i keeps rule k, counted from 0.
+// Whether place i keeps rule k, counted from 0, where the rules before it are kept.
 fn keeps(t: &[u16], k: usize, i: usize) -> bool
-    requires { ⌜ (k < 9) × (i < 200000) ⌝ }
+    requires { ⌜ (k < 9) × (i < ruleAt (chartRules (now t)) k .places) × KeptBefore (chartRules (now t)) k ⌝ }
     ensures { λ r. ⌜ r ≡ ruleAt (chartRules (now (t .entry))) k .keeps i ⌝ }
 {
     match k {
@@ -109,9 +111,9 @@ fn places_of(t: &[u16], k: usize) -> usize
     }
 }
 
-// The lowest place that breaks rule k; all its places, where none does.
+// The lowest place that breaks rule k, where the rules before it are kept; all its places, where none does.
 fn lowest_bad(t: &[u16], k: usize, places: usize) -> usize
-    requires { ⌜ (k < 9) × (places < 200000) × (places ≡ ruleAt (chartRules (now t)) k .places) ⌝ }
+    requires { ⌜ (k < 9) × (places < 200000) × (places ≡ ruleAt (chartRules (now t)) k .places) × KeptBefore (chartRules (now t)) k ⌝ }
     ensures is { λ r. ⌜ r ≡ lowestBad (ruleAt (chartRules (now (t .entry))) k) ⌝ }
     ensures small { λ r. ⌜ r ≤ places ⌝ }
 {

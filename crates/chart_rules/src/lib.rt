@@ -1,15 +1,16 @@
-// The tests of document 01's rules 4 to 8 for a chart table, one function for each rule and place. They take any words at
-// all. specs/Rules.antt says the rules in words, specs/Tests.antt as tests.
+// The tests of document 01's rules 4 to 8 for a chart table, one function for each rule and place. They take any
+// table that keeps rules 1 to 3. specs/Rules.antt says the rules in words, specs/Tests.antt as tests.
 ghost use mathlib.Core.Path.{_≡_};
-ghost use Prim.Native.Nat.{_<_};
+ghost use Prim.Native.Nat.{_+_, _<_};
 ghost use Rattle.chart.specs.View.{view};
+ghost use Rattle.chart.specs.Readable.{Readable};
 ghost use Rattle.chart_rules.specs.Tests.{differ, rootPlace?, innerPlace?, goodPlace?, orBody?, goodBody?, goodState?};
 ghost use Rattle.chart_rules.specs.Tests.{goodStateSpans?, goodTransitionSpans?, goodSpans?};
 ghost use Rattle.chart_rules.specs.Tests.{literalKept, itemKept, goodSource?};
 use table::Counts;
 use table::span_inside;
 use words::both;
-use words::number;
+use words::number_in;
 
 // Whether one test holds and the other does not.
 fn differs(a: bool, b: bool) -> bool
@@ -20,7 +21,7 @@ fn differs(a: bool, b: bool) -> bool
 
 // Rule 4: the root is a plain or-state without a parent.
 fn root_place(t: &[u16], k: usize) -> bool
-    requires { ⌜ k < 1000000 ⌝ }
+    requires { ⌜ Readable (now t) × (k < view (now t) .states) ⌝ }
     ensures { λ r. ⌜ r ≡ rootPlace? (view (now (t .entry))) k ⌝ }
 {
     both(
@@ -31,20 +32,20 @@ fn root_place(t: &[u16], k: usize) -> bool
 
 // Rule 4: any other state is of a known kind, below a smaller state of the other class.
 fn inner_place(t: &[u16], k: usize) -> bool
-    requires { ⌜ k < 1000000 ⌝ }
+    requires { ⌜ Readable (now t) × (k < view (now t) .states) ⌝ }
     ensures { λ r. ⌜ r ≡ innerPlace? (view (now (t .entry))) k ⌝ }
 {
     let parent = chart::state_word(t, k, chart::PARENT);
+    if k <= parent {
+        return false;
+    }
     let alternates = differs(chart::is_and(t, k), chart::is_and(t, parent));
-    both(
-        chart::state_word(t, k, chart::KIND) <= 2,
-        both(parent < k, alternates),
-    )
+    both(chart::state_word(t, k, chart::KIND) <= 2, alternates)
 }
 
 // Rule 4: the state's kind and parent.
 fn good_place(t: &[u16], k: usize) -> bool
-    requires { ⌜ k < 1000000 ⌝ }
+    requires { ⌜ Readable (now t) × (k < view (now t) .states) ⌝ }
     ensures { λ r. ⌜ r ≡ goodPlace? (view (now (t .entry))) k ⌝ }
 {
     if k == 0 {
@@ -55,21 +56,18 @@ fn good_place(t: &[u16], k: usize) -> bool
 
 // Rule 4: an or-state's initial child is a child of it, and its item counts are 0.
 fn or_body(t: &[u16], k: usize) -> bool
-    requires { ⌜ k < 1000000 ⌝ }
+    requires { ⌜ Readable (now t) × (k < view (now t) .states) ⌝ }
     ensures { λ r. ⌜ r ≡ orBody? (view (now (t .entry))) k ⌝ }
 {
-    let at = chart::state_at(t, k);
-    let initial = chart::is_child(t, k, number(t, at + chart::INITIAL));
-    let exits = number(t, at + chart::EXITS + 1) == 0;
-    both(
-        initial,
-        both(exits, number(t, at + chart::ENTRIES + 1) == 0),
-    )
+    let initial = chart::is_child(t, k, chart::state_word(t, k, chart::INITIAL));
+    let exits = chart::state_word(t, k, chart::EXITS + 1) == 0;
+    let entries = chart::state_word(t, k, chart::ENTRIES + 1) == 0;
+    both(initial, both(exits, entries))
 }
 
 // Rule 4: the state's initial word, and an or-state's item counts.
 fn good_body(t: &[u16], k: usize) -> bool
-    requires { ⌜ k < 1000000 ⌝ }
+    requires { ⌜ Readable (now t) × (k < view (now t) .states) ⌝ }
     ensures { λ r. ⌜ r ≡ goodBody? (view (now (t .entry))) k ⌝ }
 {
     if chart::is_and(t, k) {
@@ -80,7 +78,7 @@ fn good_body(t: &[u16], k: usize) -> bool
 
 // Rule 4.
 pub fn good_state(t: &[u16], k: usize) -> bool
-    requires { ⌜ k < 1000000 ⌝ }
+    requires { ⌜ Readable (now t) × (k < view (now t) .states) ⌝ }
     ensures { λ r. ⌜ r ≡ goodState? (view (now (t .entry))) k ⌝ }
 {
     both(good_place(t, k), good_body(t, k))
@@ -88,7 +86,7 @@ pub fn good_state(t: &[u16], k: usize) -> bool
 
 // Rule 5 for a state.
 fn good_state_spans(t: &[u16], k: usize) -> bool
-    requires { ⌜ k < 200000 ⌝ }
+    requires { ⌜ Readable (now t) × (k < view (now t) .states) ⌝ }
     ensures { λ r. ⌜ r ≡ goodStateSpans? (view (now (t .entry))) k ⌝ }
 {
     let at = chart::state_at(t, k);
@@ -100,12 +98,12 @@ fn good_state_spans(t: &[u16], k: usize) -> bool
 
 // Rule 5 for a transition.
 fn good_transition_spans(t: &[u16], k: usize) -> bool
-    requires { ⌜ k < 200000 ⌝ }
+    requires { ⌜ Readable (now t) × (k < view (now t) .transitions) ⌝ }
     ensures { λ r. ⌜ r ≡ goodTransitionSpans? (view (now (t .entry))) k ⌝ }
 {
     let at = chart::transition_at(t, k);
     let literals = span_inside(t, at + chart::ASKS, chart::LITERALS);
-    let few = number(t, at + chart::ASKS + 1) <= 8;
+    let few = number_in(t, at + chart::ASKS + 1) <= 8;
     let items = span_inside(t, at + chart::DOES, chart::ITEMS);
     let targets = span_inside(t, at + chart::AIMS, chart::TARGETS);
     both(both(literals, few), both(items, targets))
@@ -113,10 +111,10 @@ fn good_transition_spans(t: &[u16], k: usize) -> bool
 
 // Rule 5: the places are the states, and then the transitions.
 pub fn good_spans(t: &[u16], p: usize) -> bool
-    requires { ⌜ p < 200000 ⌝ }
+    requires { ⌜ Readable (now t) × (p < view (now t) .states + view (now t) .transitions) ⌝ }
     ensures { λ r. ⌜ r ≡ goodSpans? (view (now (t .entry))) p ⌝ }
 {
-    let n = number(t, chart::STATES);
+    let n = chart::head(t, chart::STATES);
     if p < n {
         return good_state_spans(t, p);
     }
@@ -125,38 +123,40 @@ pub fn good_spans(t: &[u16], p: usize) -> bool
 
 // Rule 6.
 pub fn good_literal(t: &[u16], i: usize) -> bool
-    requires { ⌜ i < 200000 ⌝ }
+    requires { ⌜ Readable (now t) × (i < view (now t) .literals) ⌝ }
     ensures { λ r. ⌜ r ≡ literalKept (view (now (t .entry))) i ⌝ }
 {
-    let at = number(t, chart::LITERALS_AT) + 3 * i;
-    let kind = number(t, at);
-    let a = number(t, at + 1);
+    let at = chart::literal_begin(t, i);
+    let kind = number_in(t, at);
+    let a = number_in(t, at + 1);
     if kind < 2 {
-        return both(chart::is_and_state(t, a), number(t, at + 2) == 0);
+        return both(chart::is_and_state(t, a), number_in(t, at + 2) == 0);
     }
-    both(kind < 4, a < number(t, chart::VARIABLES))
+    both(kind < 4, a < chart::head(t, chart::VARIABLES))
 }
 
 // Rule 7.
 pub fn good_item(t: &[u16], i: usize) -> bool
-    requires { ⌜ i < 200000 ⌝ }
+    requires { ⌜ Readable (now t) × (i < view (now t) .items) ⌝ }
     ensures { λ r. ⌜ r ≡ itemKept (view (now (t .entry))) i ⌝ }
 {
     let counts = Counts {
-        signals: words::word(t, chart::SIGNALS),
-        outputs: words::word(t, chart::OUTPUTS),
-        variables: words::word(t, chart::VARIABLES),
+        signals: words::word_in(t, chart::SIGNALS),
+        outputs: words::word_in(t, chart::OUTPUTS),
+        variables: words::word_in(t, chart::VARIABLES),
     };
-    table::good_item_at(t, number(t, chart::ITEMS_AT) + 3 * i, counts)
+    table::good_item_at(t, chart::item_begin(t, i), counts)
 }
 
 // Rule 8.
 pub fn good_source(t: &[u16], k: usize) -> bool
-    requires { ⌜ k < 200000 ⌝ }
+    requires { ⌜ Readable (now t) × (k < view (now t) .transitions) ⌝ }
     ensures { λ r. ⌜ r ≡ goodSource? (view (now (t .entry))) k ⌝ }
 {
-    let at = chart::transition_at(t, k);
-    let source = chart::is_and_state(t, number(t, at + chart::SOURCE));
-    let triggers = number(t, chart::EVENTS) + number(t, chart::SIGNALS);
-    both(source, number(t, at + chart::TRIGGER) < triggers)
+    let source = chart::is_and_state(t, chart::transition_word(t, k, chart::SOURCE));
+    let triggers = chart::head(t, chart::EVENTS) + chart::head(t, chart::SIGNALS);
+    both(
+        source,
+        chart::transition_word(t, k, chart::TRIGGER) < triggers,
+    )
 }

@@ -3,8 +3,8 @@
 -- at word k % 32. proofs/Same.antt shows that this gives what specs/Run.antt says.
 use mathlib.Core.Bool.{Bool, true, false, cond, _||_}
 use mathlib.Core.List.{List, [], _∷_}
-use Prim.Native.Nat.{ℕ, zero, suc, _+_, _*_, _%_}
-use lib.ListN.{getD, set}
+use Prim.Native.Nat.{ℕ, zero, suc, _+_, _*_, _%_, _<_, _≤_}
+use lib.ListN.{length, getD, set}
 use lib.Dec.{eqb, leb}
 use Rattle.words.specs.Signed.{wrapAdd, satAdd}
 use Rattle.words.specs.Loops.{many}
@@ -129,6 +129,12 @@ itemsFrom t at (suc k) = itemIn (tripleAt t at) ∷ itemsFrom t (at + 3) k
 -- the items of the span whose two words begin at `at`, of the section that begins where word `base` says
 unfoldable pub spanItems : List ℕ → ℕ → ℕ → List Item
 spanItems t base at = many (λ i. itemIn (tripleAt t (getD t base 0 + 3 * i))) (getD t at 0) (getD t (at + 1) 0)
+
+-- that span, its items and the word that says where they begin lie inside the table, so that reading them needs no test
+pub record ItemsIn (t : List ℕ) (base at : ℕ) : Type 0 where
+  pub base-in : base < length t
+  pub span-in : at + 1 < length t
+  pub items-in : getD t base 0 + 3 * (getD t at 0 + getD t (at + 1) 0) ≤ length t
 
 -- ---- steps
 abbrev pub counted : Tag → Progress → Progress

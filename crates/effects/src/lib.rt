@@ -1,10 +1,10 @@
 // What items do: to running variables, outputs and the queue of signals; and what both engines need for a macrostep. It
 // knows items, and neither charts nor flat tables. specs/Run.antt says what it means, specs/Work.antt how the code goes.
 ghost use mathlib.Core.Path.{_≡_};
-ghost use Prim.Native.Nat.{_+_, _*_, _%_, _<_};
-ghost use lib.ListN.{getD};
+ghost use Prim.Native.Nat.{_+_, _*_, _%_, _<_, _≤_};
+ghost use lib.ListN.{length, getD};
 ghost use Rattle.effects.specs.Run.{leave, take, enter};
-ghost use Rattle.effects.specs.Work.{more, work, stopped?, stopAt, doEmit, doRaise, doItem, doItems, itemsFrom, spanItems, counted, microDone, popped, ended?, fresh, refusalOf};
+ghost use Rattle.effects.specs.Work.{more, work, stopped?, stopAt, doEmit, doRaise, doItem, doItems, itemsFrom, spanItems, ItemsIn, counted, microDone, popped, ended?, fresh, refusalOf};
 use table::Item;
 use table::Refusal;
 use table::Signal;
@@ -149,7 +149,7 @@ pub fn run_items(
     queue: &mut [u16],
     n: Progress,
 ) -> Progress
-    requires { ⌜ first + 3 * count < 10000000 ⌝ }
+    requires { ⌜ first + 3 * count ≤ length (now t) ⌝ }
     ensures { λ r. ⌜ work r (now (vars .exit)) (now (outs .exit)) (now (queue .exit)) ≡ doItems room (itemsFrom (now (t .entry)) first count) (work n (now (vars .entry)) (now (outs .entry)) (now (queue .entry))) ⌝ }
 {
     let mut m = n;
@@ -178,11 +178,11 @@ pub fn run_span(
     queue: &mut [u16],
     n: Progress,
 ) -> Progress
-    requires { ⌜ at < 1000000 ⌝ }
+    requires { ⌜ ItemsIn (now t) base at ⌝ }
     ensures { λ r. ⌜ work r (now (vars .exit)) (now (outs .exit)) (now (queue .exit)) ≡ doItems room (spanItems (now (t .entry)) base at) (work n (now (vars .entry)) (now (outs .entry)) (now (queue .entry))) ⌝ }
 {
-    let first = words::number(t, base) + 3 * words::number(t, at);
-    let count = words::number(t, at + 1);
+    let first = words::number_in(t, base) + 3 * words::number_in(t, at);
+    let count = words::number_in(t, at + 1);
     run_items(t, first, count, room, vars, outs, queue, n)
 }
 

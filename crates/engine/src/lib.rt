@@ -76,7 +76,7 @@ fn run_accepted(t: &[u16], state: &mut [u16], event: u32, outputs: &mut [u16]) -
     if !lent::is_state(t, &ranks, ors, state) {
         return ChartRun::Refused(Refusal::State);
     }
-    if words::number(t, chart::EVENTS) <= effects::wide(event) {
+    if chart::head(t, chart::EVENTS) <= effects::wide(event) {
         return ChartRun::Refused(Refusal::NoEvent);
     }
     let end = 48 + ors;
@@ -108,7 +108,7 @@ fn start_accepted(t: &[u16], state: &mut [u16]) -> Verdict
 {
     let mut ranks = [0u16; 48];
     let ors = active::or_ranks(t, &mut ranks);
-    if state.len() != ors + words::number(t, chart::VARIABLES) {
+    if state.len() != ors + chart::head(t, chart::VARIABLES) {
         return Verdict::Refused(Refusal::State);
     }
     lent::lay_initials(t, state);

@@ -5,6 +5,7 @@ ghost use Prim.Native.Nat.{ℕ, _<_};
 ghost use lib.ListN.{getD};
 ghost use Rattle.words.specs.Loops.{any};
 ghost use Rattle.chart.specs.View.{view};
+ghost use Rattle.chart.specs.Readable.{Readable};
 ghost use Rattle.chart_rules.specs.Rules.{ChartRules};
 ghost use Rattle.states.specs.Cells.{cells};
 ghost use Rattle.meaning.specs.Scope.{scope, targetsOf};
@@ -15,6 +16,7 @@ use states::StateSet;
 
 // Whether state j is below a or, where `itself` says so, a.
 fn is_under(t: &[u16], itself: bool, a: usize, j: usize) -> bool
+    requires { ⌜ Readable (now t) ⌝ }
     ensures { λ r. ⌜ r ≡ under itself (view (now (t .entry))) a j ⌝ }
 {
     if itself {
@@ -25,12 +27,11 @@ fn is_under(t: &[u16], itself: bool, a: usize, j: usize) -> bool
 
 // Whether a target of transition k is.
 fn is_some_under(t: &[u16], itself: bool, k: usize, a: usize) -> bool
-    requires { ⌜ k < 48 ⌝ }
+    requires { ⌜ ChartRules (now t) × (k < view (now t) .transitions) ⌝ }
     ensures { λ r. ⌜ r ≡ any (under itself (view (now (t .entry))) a) (targetsOf (view (now (t .entry))) k) ⌝ }
 {
-    let at = chart::transition_at(t, k);
-    let mut i = words::number(t, at + chart::AIMS);
-    let mut left = words::number(t, at + chart::AIMS + 1);
+    let mut i = chart::transition_word(t, k, chart::AIMS);
+    let mut left = chart::transition_word(t, k, chart::AIMS + 1);
     while 0 < left {
         if is_under(t, itself, a, chart::target_word(t, i)) {
             return true;
@@ -43,7 +44,7 @@ fn is_some_under(t: &[u16], itself: bool, k: usize, a: usize) -> bool
 
 // Whether a target of transition k is below o.
 pub fn is_aimed(t: &[u16], k: usize, o: usize) -> bool
-    requires { ⌜ k < 48 ⌝ }
+    requires { ⌜ ChartRules (now t) × (k < view (now t) .transitions) ⌝ }
     ensures { λ r. ⌜ r ≡ aimed (view (now (t .entry))) k o ⌝ }
 {
     is_some_under(t, false, k, o)
@@ -51,7 +52,7 @@ pub fn is_aimed(t: &[u16], k: usize, o: usize) -> bool
 
 // Whether state j is a target of transition k, or above one.
 pub fn does_lead(t: &[u16], k: usize, j: usize) -> bool
-    requires { ⌜ k < 48 ⌝ }
+    requires { ⌜ ChartRules (now t) × (k < view (now t) .transitions) ⌝ }
     ensures { λ r. ⌜ r ≡ leads (view (now (t .entry))) k j ⌝ }
 {
     is_some_under(t, true, k, j)
@@ -59,7 +60,7 @@ pub fn does_lead(t: &[u16], k: usize, j: usize) -> bool
 
 // Whether j is the child that transition k chooses in the or-state above it.
 fn is_chosen(t: &[u16], ranks: &[u16], current: &[u16], k: usize, j: usize) -> bool
-    requires { ⌜ (k < 48) × (j < 48) × Ranks (view (now t)) (now ranks) × (view (now t) .parent j < view (now t) .states) ⌝ }
+    requires { ⌜ ChartRules (now t) × (k < view (now t) .transitions) × (j < view (now t) .states) × Ranks (view (now t)) (now ranks) × (view (now t) .parent j < view (now t) .states) ⌝ }
     ensures { λ r. ⌜ r ≡ chosen (view (now (t .entry))) (now (current .entry)) k j ⌝ }
 {
     let o = chart::state_word(t, j, chart::PARENT);
@@ -74,7 +75,7 @@ fn is_chosen(t: &[u16], ranks: &[u16], current: &[u16], k: usize, j: usize) -> b
 
 // Whether the or-state above j has a child entered: it is `top`, the scope, or below a state of `entered`.
 pub fn is_reached(t: &[u16], top: usize, j: usize, entered: StateSet) -> bool
-    requires { ⌜ j < 48 ⌝ }
+    requires { ⌜ ChartRules (now t) × (j < view (now t) .states) × (view (now t) .parent j < view (now t) .states) ⌝ }
     ensures { λ r. ⌜ r ≡ reached (view (now (t .entry))) top j (cells entered) ⌝ }
 {
     let o = chart::state_word(t, j, chart::PARENT);
@@ -84,7 +85,7 @@ pub fn is_reached(t: &[u16], top: usize, j: usize, entered: StateSet) -> bool
     if o == 0 {
         return false;
     }
-    states::has(entered, chart::state_word(t, o, chart::PARENT))
+    states::has_in(entered, chart::state_word(t, o, chart::PARENT))
 }
 
 // Whether state j is entered, where `entered` has those before it.
@@ -97,7 +98,7 @@ fn is_entered_at(
     j: usize,
     entered: StateSet,
 ) -> bool
-    requires { ⌜ ChartRules (now t) × (k < 48) × (j < view (now t) .states) × Ranks (view (now t)) (now ranks) × (top ≡ scope (view (now t)) k) ⌝ }
+    requires { ⌜ ChartRules (now t) × (k < view (now t) .transitions) × (j < view (now t) .states) × Ranks (view (now t)) (now ranks) × (top ≡ scope (view (now t)) k) ⌝ }
     ensures { λ r. ⌜ r ≡ enteredAt (view (now (t .entry))) (now (current .entry)) k j (cells entered) ⌝ }
 {
     if !chart::is_and(t, j) {
@@ -111,14 +112,14 @@ fn is_entered_at(
 
 // The states that transition k enters, whose scope is `top`.
 pub fn entered_set(t: &[u16], ranks: &[u16], current: &[u16], k: usize, top: usize) -> StateSet
-    requires { ⌜ ChartRules (now t) × (k < 48) × Ranks (view (now t)) (now ranks) × (top ≡ scope (view (now t)) k) ⌝ }
+    requires { ⌜ ChartRules (now t) × (k < view (now t) .transitions) × Ranks (view (now t)) (now ranks) × (top ≡ scope (view (now t)) k) ⌝ }
     ensures { λ r. ⌜ ((j : ℕ) → getD (cells r) j false ≡ getD (entereds (view (now (t .entry))) (now (current .entry)) k) j false) ⌝ }
 {
-    let n = words::number(t, chart::STATES);
+    let n = chart::head(t, chart::STATES);
     let mut entered = states::none();
     let mut j = 0;
     while j < n {
-        entered = states::with(
+        entered = states::grown(
             entered,
             j,
             is_entered_at(t, ranks, current, k, top, j, entered),

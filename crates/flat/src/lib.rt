@@ -1,8 +1,11 @@
-// The flat table: its layout, and the reading of its records. It judges nothing: every function here takes any words at
-// all. specs/View.antt says what the words show.
+// The flat table: its layout, and the reading of its records. It judges nothing: every function here takes any table whose
+// sections lie inside it, and so tests no index. specs/View.antt says what the words show, specs/Readable.antt what a table
+// must be to be read.
 ghost use mathlib.Core.Path.{_≡_};
 ghost use Prim.Native.Nat.{_+_, _*_, _<_};
+ghost use lib.ListN.{length};
 ghost use Rattle.flat.specs.View.{at, flatView, guardAt, ruleAt, stateOf?};
+ghost use Rattle.flat.specs.Readable.{FlatReadable};
 ghost use Rattle.flat.specs.Literals.{flatLiteralOf, flatLiteralIn};
 
 // Header words: the total, the counts, and the offsets of the sections.
@@ -54,57 +57,69 @@ pub const TARGET: usize = 5;
 // A rule's target word where it has none.
 pub const NONE: usize = 65535;
 
+// Header word i: a count, or where a section begins.
+pub fn head(t: &[u16], i: usize) -> usize
+    requires { ⌜ FlatReadable (now t) × (i < 18) ⌝ }
+    ensures is { λ x. ⌜ x ≡ at (now (t .entry)) i ⌝ }
+    ensures small { λ x. ⌜ x < 65536 ⌝ }
+{
+    words::number_in(t, i)
+}
+
 // The initial state of machine m.
 pub fn initial_of(t: &[u16], m: usize) -> usize
-    requires { ⌜ m < 1000000 ⌝ }
+    requires { ⌜ FlatReadable (now t) × (m < flatView (now t) .machines) ⌝ }
     ensures is { λ x. ⌜ x ≡ flatView (now (t .entry)) .initial m ⌝ }
     ensures small { λ x. ⌜ x < 65536 ⌝ }
 {
-    words::number(t, words::number(t, MACHINES_AT) + m)
+    words::number_in(t, head(t, MACHINES_AT) + m)
 }
 
 // The machine of state j.
 pub fn machine_of(t: &[u16], j: usize) -> usize
-    requires { ⌜ j < 1000000 ⌝ }
+    requires { ⌜ FlatReadable (now t) × (j < flatView (now t) .states) ⌝ }
     ensures is { λ x. ⌜ x ≡ flatView (now (t .entry)) .machine j ⌝ }
     ensures small { λ x. ⌜ x < 65536 ⌝ }
 {
-    words::number(t, words::number(t, STATES_AT) + j)
+    words::number_in(t, head(t, STATES_AT) + j)
 }
 
 // Whether j is the number of a state of machine m.
 pub fn is_state_of(t: &[u16], m: usize, j: usize) -> bool
-    requires { ⌜ j < 1000000 ⌝ }
+    requires { ⌜ FlatReadable (now t) ⌝ }
     ensures { λ r. ⌜ r ≡ stateOf? (flatView (now (t .entry))) m j ⌝ }
 {
-    words::both(j < words::number(t, STATES), machine_of(t, j) == m)
+    if j < head(t, STATES) {
+        return machine_of(t, j) == m;
+    }
+    false
 }
 
 // Where the words of guard k begin: the first of its literals, and behind it their count.
 pub fn guard_at(t: &[u16], k: usize) -> usize
-    requires { ⌜ k < 1000000 ⌝ }
+    requires { ⌜ FlatReadable (now t) × (k < flatView (now t) .guards) ⌝ }
     ensures is { λ x. ⌜ x ≡ guardAt (now (t .entry)) k ⌝ }
-    ensures small { λ x. ⌜ x < 65536 + 2 * k ⌝ }
+    ensures inside { λ x. ⌜ x + 1 < length (now (t .entry)) ⌝ }
 {
-    words::number(t, GUARDS_AT) + 2 * k
+    head(t, GUARDS_AT) + 2 * k
 }
 
 // Where the words of rule k begin.
 pub fn rule_at(t: &[u16], k: usize) -> usize
-    requires { ⌜ k < 1000000 ⌝ }
+    requires { ⌜ FlatReadable (now t) × (k < flatView (now t) .rules) ⌝ }
     ensures is { λ x. ⌜ x ≡ ruleAt (now (t .entry)) k ⌝ }
-    ensures small { λ x. ⌜ x < 65536 + 6 * k ⌝ }
+    ensures inside { λ x. ⌜ x + 5 < length (now (t .entry)) ⌝ }
 {
-    words::number(t, RULES_AT) + 6 * k
+    head(t, RULES_AT) + 6 * k
 }
 
 // Word r of rule k.
 pub fn rule_word(t: &[u16], k: usize, r: usize) -> usize
-    requires { ⌜ (k < 1000000) × (r < 6) ⌝ }
+    requires { ⌜ FlatReadable (now t) × (k < flatView (now t) .rules) × (r < 6) ⌝ }
     ensures is { λ x. ⌜ x ≡ at (now (t .entry)) (ruleAt (now (t .entry)) k + r) ⌝ }
     ensures small { λ x. ⌜ x < 65536 ⌝ }
 {
-    words::number(t, rule_at(t, k) + r)
+    words::number_in(t, rule_at(t, k) + r)
 }
 
 // What a literal asks: a state current or not, a variable at least or less than a number, a guard true or false.
@@ -131,15 +146,33 @@ fn literal_of(kind: u16, a: u16, b: u16) -> FlatLiteral
     }
 }
 
+// Where the words of literal i begin.
+pub fn literal_begin(t: &[u16], i: usize) -> usize
+    requires { ⌜ FlatReadable (now t) × (i < flatView (now t) .literals) ⌝ }
+    ensures is { λ x. ⌜ x ≡ at (now (t .entry)) 15 + 3 * i ⌝ }
+    ensures inside { λ x. ⌜ x + 2 < length (now (t .entry)) ⌝ }
+{
+    head(t, LITERALS_AT) + 3 * i
+}
+
 // Literal i.
 pub fn literal_at(t: &[u16], i: usize) -> FlatLiteral
-    requires { ⌜ i < 1000000 ⌝ }
+    requires { ⌜ FlatReadable (now t) × (i < flatView (now t) .literals) ⌝ }
     ensures { λ r. ⌜ r ≡ flatLiteralIn (flatView (now (t .entry)) .literal i) ⌝ }
 {
-    let at = words::number(t, LITERALS_AT) + 3 * i;
+    let at = literal_begin(t, i);
     literal_of(
-        words::word(t, at),
-        words::word(t, at + 1),
-        words::word(t, at + 2),
+        words::word_in(t, at),
+        words::word_in(t, at + 1),
+        words::word_in(t, at + 2),
     )
+}
+
+// Where the words of item i begin.
+pub fn item_begin(t: &[u16], i: usize) -> usize
+    requires { ⌜ FlatReadable (now t) × (i < flatView (now t) .items) ⌝ }
+    ensures is { λ x. ⌜ x ≡ at (now (t .entry)) 16 + 3 * i ⌝ }
+    ensures inside { λ x. ⌜ x + 2 < length (now (t .entry)) ⌝ }
+{
+    head(t, ITEMS_AT) + 3 * i
 }

@@ -1,4 +1,5 @@
 -- The check is exact: `RuleByRule` that each test tells its rule, `Exact` that a table is accepted just where it keeps all
--- rules.
+-- rules. `Before`: what the rules say that are kept when the next is judged.
 pub mod RuleByRule
 pub mod Exact
+pub mod Before

@@ -3,7 +3,7 @@
 ghost use mathlib.Core.Path.{_≡_};
 ghost use Prim.Native.Nat.{_<_, _≤_};
 ghost use Rattle.table.specs.Answers.{told};
-ghost use Rattle.table.specs.Check.{ruleAt, lowestBad};
+ghost use Rattle.table.specs.Check.{ruleAt, lowestBad, KeptBefore};
 ghost use Rattle.flat_check.specs.Answer.{flatRules, flatAnswer};
 use flat_head::good_counts;
 use flat_head::good_form;
@@ -16,9 +16,9 @@ use flat_rules::good_span;
 use table::Verdict;
 use words::number;
 
-// Whether place i keeps rule k, counted from 0.
+// Whether place i keeps rule k, counted from 0, where the rules before it are kept.
 fn keeps(t: &[u16], k: usize, i: usize) -> bool
-    requires { ⌜ (k < 8) × (i < 200000) ⌝ }
+    requires { ⌜ (k < 8) × (i < ruleAt (flatRules (now t)) k .places) × KeptBefore (flatRules (now t)) k ⌝ }
     ensures { λ r. ⌜ r ≡ ruleAt (flatRules (now (t .entry))) k .keeps i ⌝ }
 {
     match k {
@@ -51,9 +51,9 @@ fn places_of(t: &[u16], k: usize) -> usize
     }
 }
 
-// The lowest place that breaks rule k; all its places, where none does.
+// The lowest place that breaks rule k, where the rules before it are kept; all its places, where none does.
 fn lowest_bad(t: &[u16], k: usize, places: usize) -> usize
-    requires { ⌜ (k < 8) × (places < 200000) × (places ≡ ruleAt (flatRules (now t)) k .places) ⌝ }
+    requires { ⌜ (k < 8) × (places < 200000) × (places ≡ ruleAt (flatRules (now t)) k .places) × KeptBefore (flatRules (now t)) k ⌝ }
     ensures is { λ r. ⌜ r ≡ lowestBad (ruleAt (flatRules (now (t .entry))) k) ⌝ }
     ensures small { λ r. ⌜ r ≤ places ⌝ }
 {

@@ -36,7 +36,7 @@ fn good_words(t: &[u16], current: &[u16]) -> bool
     requires { ⌜ FlatRules (now t) ⌝ }
     ensures { λ r. ⌜ r ≡ allBelow (goodFlatWord? (flatView (now (t .entry))) (now (current .entry))) (flatView (now (t .entry)) .machines) ⌝ }
 {
-    let machines = words::number(t, flat::MACHINES);
+    let machines = flat::head(t, flat::MACHINES);
     let mut m = 0;
     while m < machines {
         if !flat::is_state_of(t, m, words::number(current, m)) {
@@ -52,8 +52,8 @@ fn is_state(t: &[u16], state: &[u16]) -> bool
     requires { ⌜ FlatRules (now t) ⌝ }
     ensures { λ r. ⌜ r ≡ flatStateOf? (flatView (now (t .entry))) (now (state .entry)) ⌝ }
 {
-    let machines = words::number(t, flat::MACHINES);
-    if state.len() != machines + words::number(t, flat::VARIABLES) {
+    let machines = flat::head(t, flat::MACHINES);
+    if state.len() != machines + flat::head(t, flat::VARIABLES) {
         return false;
     }
     good_words(t, &state[..machines])
@@ -81,7 +81,7 @@ fn run_state(
     requires { ⌜ FlatRules (now t) × (flatView (now t) .guards ≤ 16 * length (now marks)) × (length (now state) ≡ flatLength (flatView (now t))) ⌝ }
     ensures { λ r. ⌜ flatRanTold r (now (state .exit)) (now (outputs .exit)) ≡ flatRanOn (flatView (now (t .entry))) (now (state .entry)) (event .0) (now (outputs .entry)) ⌝ }
 {
-    let machines = words::number(t, flat::MACHINES);
+    let machines = flat::head(t, flat::MACHINES);
     let n = macrostep::run(Form::Flat, t, marks, machines, state, event, outputs);
     let stop = n.stop;
     if effects::has_stopped(stop) {
@@ -98,10 +98,10 @@ fn run_accepted(t: &[u16], state: &mut [u16], event: u32, outputs: &mut [u16]) -
     if !is_state(t, state) {
         return FlatRun::Refused(Refusal::State);
     }
-    if words::number(t, flat::EVENTS) <= effects::wide(event) {
+    if flat::head(t, flat::EVENTS) <= effects::wide(event) {
         return FlatRun::Refused(Refusal::NoEvent);
     }
-    let g = words::number(t, flat::GUARDS) / 16 + 1;
+    let g = flat::head(t, flat::GUARDS) / 16 + 1;
     let mut marks = [0u16; 147];
     run_state(t, &mut marks[..g], state, Trigger(event), outputs)
 }
@@ -129,11 +129,10 @@ fn lay_initials(t: &[u16], state: &mut [u16])
     requires { ⌜ FlatRules (now t) × (flatView (now t) .machines ≤ length (now state)) ⌝ }
     ensures { λ r. ⌜ now (state .exit) ≡ flatStartWords (flatView (now (t .entry))) ++ drop (flatView (now (t .entry)) .machines) (now (state .entry)) ⌝ }
 {
-    let machines = words::number(t, flat::MACHINES);
-    let at = words::number(t, flat::MACHINES_AT);
+    let machines = flat::head(t, flat::MACHINES);
     let mut m = 0;
     while m < machines {
-        words::put(state, m, words::word(t, at + m));
+        words::put(state, m, flat::initial_of(t, m) as u16);
         m += 1;
     }
 }
@@ -143,8 +142,8 @@ fn start_accepted(t: &[u16], state: &mut [u16]) -> Verdict
     requires { ⌜ FlatRules (now t) ⌝ }
     ensures { λ r. ⌜ startTold r (now (state .exit)) ≡ flatStartedOn (flatView (now (t .entry))) (now (state .entry)) ⌝ }
 {
-    let machines = words::number(t, flat::MACHINES);
-    if state.len() != machines + words::number(t, flat::VARIABLES) {
+    let machines = flat::head(t, flat::MACHINES);
+    if state.len() != machines + flat::head(t, flat::VARIABLES) {
         return Verdict::Refused(Refusal::State);
     }
     lay_initials(t, state);

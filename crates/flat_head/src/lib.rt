@@ -1,6 +1,8 @@
-// The tests of document 01's rules 11 to 13 for a flat table: its form, its counts and its layout. They take any words at
-// all. specs/Rules.antt says the rules in words, specs/Tests.antt as tests.
+// The tests of document 01's rules 11 to 13 for a flat table: its form, of any words at all, and where they have a header
+// its counts and its layout. specs/Rules.antt says the rules in words, specs/Tests.antt as tests.
 ghost use mathlib.Core.Path.{_≡_};
+ghost use Prim.Native.Nat.{_≤_};
+ghost use lib.ListN.{length};
 ghost use Rattle.flat.specs.View.{flatView};
 ghost use Rattle.flat_head.specs.Tests.{goodForm?, stateCounts?, nameCounts?, listCounts?, goodCounts?};
 ghost use Rattle.flat_head.specs.Tests.{frontLayout?, backLayout?, goodLayout?};
@@ -8,6 +10,7 @@ use table::count_between;
 use table::follows;
 use words::both;
 use words::number;
+use words::number_in;
 
 // Rule 11: a header, form 2, and the total that the slice has.
 pub fn good_form(t: &[u16]) -> bool
@@ -21,6 +24,7 @@ pub fn good_form(t: &[u16]) -> bool
 
 // Rule 12: machines, states, events.
 fn state_counts(t: &[u16]) -> bool
+    requires { ⌜ 18 ≤ length (now t) ⌝ }
     ensures { λ r. ⌜ r ≡ stateCounts? (flatView (now (t .entry))) ⌝ }
 {
     let first = count_between(t, flat::MACHINES, 1, 24);
@@ -30,6 +34,7 @@ fn state_counts(t: &[u16]) -> bool
 
 // Rule 12: signals, outputs, variables.
 fn name_counts(t: &[u16]) -> bool
+    requires { ⌜ 18 ≤ length (now t) ⌝ }
     ensures { λ r. ⌜ r ≡ nameCounts? (flatView (now (t .entry))) ⌝ }
 {
     let first = count_between(t, flat::SIGNALS, 0, 32);
@@ -42,6 +47,7 @@ fn name_counts(t: &[u16]) -> bool
 
 // Rule 12: guards, literals, items, rules.
 fn list_counts(t: &[u16]) -> bool
+    requires { ⌜ 18 ≤ length (now t) ⌝ }
     ensures { λ r. ⌜ r ≡ listCounts? (flatView (now (t .entry))) ⌝ }
 {
     let guards = count_between(t, flat::GUARDS, 0, 2351);
@@ -53,6 +59,7 @@ fn list_counts(t: &[u16]) -> bool
 
 // Rule 12: every count is in its range.
 pub fn good_counts(t: &[u16]) -> bool
+    requires { ⌜ 18 ≤ length (now t) ⌝ }
     ensures { λ r. ⌜ r ≡ goodCounts? (flatView (now (t .entry))) ⌝ }
 {
     both(state_counts(t), both(name_counts(t), list_counts(t)))
@@ -60,9 +67,10 @@ pub fn good_counts(t: &[u16]) -> bool
 
 // Rule 13: machines behind the header, states behind them, then guards.
 fn front_layout(t: &[u16]) -> bool
+    requires { ⌜ 18 ≤ length (now t) ⌝ }
     ensures { λ r. ⌜ r ≡ frontLayout? (now (t .entry)) ⌝ }
 {
-    let machines = number(t, flat::MACHINES_AT) == 18;
+    let machines = number_in(t, flat::MACHINES_AT) == 18;
     let states = follows(t, flat::STATES_AT, flat::MACHINES_AT, 1, flat::MACHINES);
     let guards = follows(t, flat::GUARDS_AT, flat::STATES_AT, 1, flat::STATES);
     both(machines, both(states, guards))
@@ -70,6 +78,7 @@ fn front_layout(t: &[u16]) -> bool
 
 // Rule 13: literals behind the guards, then items, then rules, and the total behind them.
 fn back_layout(t: &[u16]) -> bool
+    requires { ⌜ 18 ≤ length (now t) ⌝ }
     ensures { λ r. ⌜ r ≡ backLayout? (now (t .entry)) ⌝ }
 {
     let literals = follows(t, flat::LITERALS_AT, flat::GUARDS_AT, 2, flat::GUARDS);
@@ -81,6 +90,7 @@ fn back_layout(t: &[u16]) -> bool
 
 // Rule 13: the sections follow the header without gaps, and the table ends with the last.
 pub fn good_layout(t: &[u16]) -> bool
+    requires { ⌜ 18 ≤ length (now t) ⌝ }
     ensures { λ r. ⌜ r ≡ goodLayout? (now (t .entry)) ⌝ }
 {
     both(front_layout(t), back_layout(t))

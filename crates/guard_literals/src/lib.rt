@@ -88,9 +88,8 @@ fn put_asked(room: &mut [u16], at: usize, t: &[u16], k: usize, actives: &[u16]) 
     ensures told { λ r. ⌜ Told at (map (flatLiteral (view (now (t .entry)))) (literalsOf (view (now (t .entry))) k)) (now (room .entry)) r (now (room .exit)) ⌝ }
     ensures few { λ r. ⌜ r ≤ at + 24 ⌝ }
 {
-    let asks = chart::transition_at(t, k) + chart::ASKS;
-    let first = words::number(t, asks);
-    let count = words::number(t, asks + 1);
+    let first = chart::transition_word(t, k, chart::ASKS);
+    let count = chart::transition_word(t, k, chart::ASKS + 1);
     let mut next = at;
     let mut i = 0;
     while i < count {

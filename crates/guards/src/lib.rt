@@ -1,15 +1,18 @@
-// The guards of a flat table: which are true, on given words and variables. The true ones are marked, a bit each.
+// The guards of a flat table that is accepted: which are true, on given words and variables. The true ones are marked, a bit each.
 ghost use mathlib.Core.Path.{_≡_};
 ghost use Prim.Native.Nat.{ℕ, _*_, _<_, _≤_};
 ghost use lib.ListN.{length};
 ghost use Rattle.flat.specs.View.{flatView};
+ghost use Rattle.flat.specs.Readable.{FlatReadable};
+ghost use Rattle.flat_rules.specs.Rules.{FlatRules};
+ghost use Rattle.guards.specs.Names.{Names};
 ghost use Rattle.flat_meaning.specs.Guards.{current?, holdsFlat, allHold, inCells, values};
 ghost use Rattle.marks.specs.Bits.{marked};
 use flat::FlatLiteral;
 
 // Whether state a is current in its machine.
 fn is_current(t: &[u16], current: &[u16], a: usize) -> bool
-    requires { ⌜ a < 1000000 ⌝ }
+    requires { ⌜ FlatReadable (now t) × (a < flatView (now t) .states) ⌝ }
     ensures { λ r. ⌜ r ≡ current? (flatView (now (t .entry))) (now (current .entry)) a ⌝ }
 {
     words::number(current, flat::machine_of(t, a)) == a
@@ -17,6 +20,7 @@ fn is_current(t: &[u16], current: &[u16], a: usize) -> bool
 
 // Whether a literal holds, where `marks` has the guards that are true.
 fn does_hold(t: &[u16], current: &[u16], vars: &[u16], marks: &[u16], literal: FlatLiteral) -> bool
+    requires { ⌜ FlatReadable (now t) × Names (flatView (now t)) literal ⌝ }
     ensures { λ r. ⌜ r ≡ holdsFlat (flatView (now (t .entry))) (now (current .entry)) (now (vars .entry)) (marked (now (marks .entry))) literal ⌝ }
 {
     match literal {
@@ -31,12 +35,12 @@ fn does_hold(t: &[u16], current: &[u16], vars: &[u16], marks: &[u16], literal: F
 
 // Whether all literals of guard k hold.
 fn do_all_hold(t: &[u16], current: &[u16], vars: &[u16], marks: &[u16], k: usize) -> bool
-    requires { ⌜ k < 1000000 ⌝ }
+    requires { ⌜ FlatRules (now t) × (k < flatView (now t) .guards) ⌝ }
     ensures { λ r. ⌜ r ≡ allHold (flatView (now (t .entry))) (now (current .entry)) (now (vars .entry)) (marked (now (marks .entry))) k ⌝ }
 {
     let at = flat::guard_at(t, k);
-    let mut i = words::number(t, at);
-    let mut left = words::number(t, at + 1);
+    let mut i = words::number_in(t, at);
+    let mut left = words::number_in(t, at + 1);
     while 0 < left {
         if !does_hold(t, current, vars, marks, flat::literal_at(t, i)) {
             return false;
@@ -49,11 +53,11 @@ fn do_all_hold(t: &[u16], current: &[u16], vars: &[u16], marks: &[u16], k: usize
 
 // Marks the guards that are true, in rising number: a guard names smaller ones.
 pub fn evaluate(t: &[u16], current: &[u16], vars: &[u16], marks: &mut [u16])
-    requires { ⌜ flatView (now t) .guards ≤ 16 * length (now marks) ⌝ }
+    requires { ⌜ FlatRules (now t) × (flatView (now t) .guards ≤ 16 * length (now marks)) ⌝ }
     ensures { λ r. ⌜ ((k : ℕ) → marked (now (marks .exit)) k ≡ inCells (values (flatView (now (t .entry))) (now (current .entry)) (now (vars .entry))) k) ⌝ }
 {
     copies::clear(marks, 0);
-    let guards = words::number(t, flat::GUARDS);
+    let guards = flat::head(t, flat::GUARDS);
     let mut k = 0;
     while k < guards {
         let b = do_all_hold(t, current, vars, marks, k);

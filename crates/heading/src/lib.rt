@@ -6,6 +6,7 @@ ghost use Prim.Native.Nat.{_+_, _-_, _*_, _/_, _<_, _≤_};
 ghost use lib.ListN.{length};
 ghost use Rattle.words.specs.Loops.{joinUp, when};
 ghost use Rattle.chart.specs.View.{view};
+ghost use Rattle.chart.specs.Readable.{Readable};
 ghost use Rattle.chart_rules.specs.Rules.{ChartRules};
 ghost use Rattle.flattening.specs.Numbers.{andStates};
 ghost use Rattle.flattening.specs.Room.{askedLiterals, roomNeeded};
@@ -47,7 +48,7 @@ fn asked_literals(t: &[u16]) -> usize
     let mut sum = 0;
     let mut k = 0;
     while k < n {
-        sum += words::number(t, chart::transition_at(t, k) + chart::ASKS + 1);
+        sum += chart::transition_word(t, k, chart::ASKS + 1);
         k += 1;
     }
     sum
@@ -175,7 +176,7 @@ fn put_if(room: &mut [u16], at: usize, is: bool, word: u16) -> usize
 
 // Whether state k is of the and-states or, where `ands` does not hold, of the or-states.
 fn is_of(t: &[u16], ands: bool, k: usize) -> bool
-    requires { ⌜ k < 1000000 ⌝ }
+    requires { ⌜ Readable (now t) × (k < view (now t) .states) ⌝ }
     ensures { λ r. ⌜ r ≡ of? ands (view (now (t .entry))) k ⌝ }
 {
     if ands {

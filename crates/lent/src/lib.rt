@@ -6,6 +6,7 @@ ghost use Prim.Native.Nat.{ℕ, _<_, _≤_};
 ghost use lib.ListN.{length, getD, drop};
 ghost use Rattle.words.specs.Loops.{allBelow};
 ghost use Rattle.chart.specs.View.{view};
+ghost use Rattle.chart.specs.Readable.{Readable};
 ghost use Rattle.chart_rules.specs.Rules.{ChartRules};
 ghost use Rattle.states.specs.Cells.{cells};
 ghost use Rattle.meaning.specs.Active.{isOr, active};
@@ -17,14 +18,14 @@ use states::StateSet;
 
 // Whether or-state o's word is good in `words`, whose active states are `acts`.
 fn good_word(t: &[u16], ranks: &[u16], current: &[u16], acts: StateSet, o: usize) -> bool
-    requires { ⌜ Ranks (view (now t)) (now ranks) × (o < view (now t) .states) × (o < 48) × ((j : ℕ) → getD (cells acts) j false ≡ active (view (now t)) (now current) j) ⌝ }
+    requires { ⌜ ChartRules (now t) × Ranks (view (now t)) (now ranks) × (o < view (now t) .states) × ((j : ℕ) → getD (cells acts) j false ≡ active (view (now t)) (now current) j) ⌝ }
     ensures { λ r. ⌜ r ≡ goodWord? (view (now (t .entry))) (now (current .entry)) o ⌝ }
 {
     if chart::is_and(t, o) {
         return true;
     }
     let child = active::child_of(t, ranks, current, o);
-    if states::has(acts, o) {
+    if states::has_in(acts, o) {
         return chart::is_child(t, o, child);
     }
     if active::keeps_word(t, o) {
@@ -39,7 +40,7 @@ fn good_words(t: &[u16], ranks: &[u16], current: &[u16]) -> bool
     ensures { λ r. ⌜ r ≡ allBelow (goodWord? (view (now (t .entry))) (now (current .entry))) (view (now (t .entry)) .states) ⌝ }
 {
     let acts = active::active_set(t, ranks, current);
-    let n = words::number(t, chart::STATES);
+    let n = chart::head(t, chart::STATES);
     let mut o = 0;
     while o < n {
         if !good_word(t, ranks, current, acts, o) {
@@ -55,7 +56,7 @@ pub fn is_state(t: &[u16], ranks: &[u16], ors: usize, state: &[u16]) -> bool
     requires { ⌜ ChartRules (now t) × Ranks (view (now t)) (now ranks) × (ors ≡ orStates (view (now t))) × (ors ≤ 48) ⌝ }
     ensures { λ r. ⌜ r ≡ stateOf? (view (now (t .entry))) (now (state .entry)) ⌝ }
 {
-    if state.len() != ors + words::number(t, chart::VARIABLES) {
+    if state.len() != ors + chart::head(t, chart::VARIABLES) {
         return false;
     }
     good_words(t, ranks, &state[..ors])
@@ -63,21 +64,21 @@ pub fn is_state(t: &[u16], ranks: &[u16], ors: usize, state: &[u16]) -> bool
 
 // Or-state o's word as a macrostep hands it back, where `acts` are active.
 fn rest_word(t: &[u16], ranks: &[u16], current: &[u16], acts: StateSet, o: usize) -> u16
-    requires { ⌜ Ranks (view (now t)) (now ranks) × (o < view (now t) .states) × (o < 48) ⌝ }
+    requires { ⌜ ChartRules (now t) × Ranks (view (now t)) (now ranks) × (o < view (now t) .states) ⌝ }
     ensures { λ r. ⌜ r ≡ restWord (view (now (t .entry))) (now (current .entry)) (cells acts) o ⌝ }
 {
-    if states::has(acts, o) {
+    if states::has_in(acts, o) {
         return words::word(current, words::number(ranks, o));
     }
     if active::keeps_word(t, o) {
         return words::word(current, words::number(ranks, o));
     }
-    words::word(t, chart::state_at(t, o) + chart::INITIAL)
+    chart::state_word(t, o, chart::INITIAL) as u16
 }
 
 // Word v at place `at`, where state o is an or-state; the next place.
 fn lay(t: &[u16], o: usize, v: u16, at: usize, state: &mut [u16]) -> usize
-    requires { ⌜ (o < 48) × (at ≤ 48) ⌝ }
+    requires { ⌜ Readable (now t) × (o < view (now t) .states) × (at ≤ 48) ⌝ }
     ensures { λ r. ⌜ (now (state .exit), r) ≡ laid (isOr (view (now (t .entry))) o) v at (now (state .entry)) ⌝ }
 {
     if chart::is_and(t, o) {
@@ -93,7 +94,7 @@ pub fn lay_rest(t: &[u16], ranks: &[u16], current: &[u16], state: &mut [u16])
     ensures { λ r. ⌜ now (state .exit) ≡ rest (view (now (t .entry))) (now (current .entry)) ++ drop (orStates (view (now (t .entry)))) (now (state .entry)) ⌝ }
 {
     let acts = active::active_set(t, ranks, current);
-    let n = words::number(t, chart::STATES);
+    let n = chart::head(t, chart::STATES);
     let mut at = 0;
     let mut o = 0;
     while o < n {
@@ -107,14 +108,14 @@ pub fn lay_initials(t: &[u16], state: &mut [u16])
     requires { ⌜ ChartRules (now t) × (orStates (view (now t)) ≤ length (now state)) ⌝ }
     ensures { λ r. ⌜ now (state .exit) ≡ startWords (view (now (t .entry))) ++ drop (orStates (view (now (t .entry)))) (now (state .entry)) ⌝ }
 {
-    let n = words::number(t, chart::STATES);
+    let n = chart::head(t, chart::STATES);
     let mut at = 0;
     let mut o = 0;
     while o < n {
         at = lay(
             t,
             o,
-            words::word(t, chart::state_at(t, o) + chart::INITIAL),
+            chart::state_word(t, o, chart::INITIAL) as u16,
             at,
             state,
         );

@@ -31,7 +31,7 @@ fn leave_and_take(
     queue: &mut [u16],
     n: Progress,
 ) -> Progress
-    requires { ⌜ (view (now t) .states ≤ 48) × (k < 48) ⌝ }
+    requires { ⌜ ChartRules (now t) × (k < view (now t) .transitions) ⌝ }
     ensures { λ r. ⌜ ((next : List ℕ) → going r next (now (vars .exit)) (now (outs .exit)) (now (queue .exit)) ≡ doStep room (takeStep (view (now (t .entry))) k) (doSteps room (leavesBelow (view (now (t .entry))) (cells acts) top) (going n next (now (vars .entry)) (now (outs .entry)) (now (queue .entry))))) ⌝ }
 {
     let m = moves::leave_all(t, top, acts, room, vars, outs, queue, n);
@@ -52,7 +52,7 @@ fn enter(
     queue: &mut [u16],
     n: Progress,
 ) -> Progress
-    requires { ⌜ ChartRules (now t) × Ranks (view (now t)) (now ranks) × (k < 48) × (top ≡ scope (view (now t)) k) ⌝ }
+    requires { ⌜ ChartRules (now t) × Ranks (view (now t)) (now ranks) × (k < view (now t) .transitions) × (top ≡ scope (view (now t)) k) ⌝ }
     ensures { λ r. ⌜ going r (now (next .exit)) (now (vars .exit)) (now (outs .exit)) (now (queue .exit)) ≡ doSteps room (entersAll (view (now (t .entry))) (entereds (view (now (t .entry))) (now (current .entry)) k)) (going n (now (next .entry)) (now (vars .entry)) (now (outs .entry)) (now (queue .entry))) ⌝ }
 {
     let entered = entered::entered_set(t, ranks, current, k, top);
@@ -102,7 +102,7 @@ fn fire_taken(
     requires { ⌜ ChartRules (now t) × Ranks (view (now t)) (now ranks) × (k < view (now t) .transitions) ⌝ }
     ensures { λ r. ⌜ going r (now (next .exit)) (now (vars .exit)) (now (outs .exit)) (now (queue .exit)) ≡ doSteps room (cond (getD (cells taken) k false) (fires (view (now (t .entry))) (now (current .entry)) (cells acts) k) []) (going n (now (next .entry)) (now (vars .entry)) (now (outs .entry)) (now (queue .entry))) ⌝ }
 {
-    if !states::has(taken, k) {
+    if !states::has_in(taken, k) {
         return n;
     }
     fire(t, ranks, current, acts, k, room, next, vars, outs, queue, n)
@@ -125,7 +125,7 @@ fn fire_all(
     requires { ⌜ ChartRules (now t) × Ranks (view (now t)) (now ranks) ⌝ }
     ensures { λ r. ⌜ going r (now (next .exit)) (now (vars .exit)) (now (outs .exit)) (now (queue .exit)) ≡ doSteps room (joinUp (λ k. cond (getD (cells taken) k false) (fires (view (now (t .entry))) (now (current .entry)) (cells acts) k) []) (view (now (t .entry)) .transitions)) (going n (now (next .entry)) (now (vars .entry)) (now (outs .entry)) (now (queue .entry))) ⌝ }
 {
-    let transitions = words::number(t, chart::TRANSITIONS);
+    let transitions = chart::head(t, chart::TRANSITIONS);
     let mut m = n;
     let mut k = 0;
     while k < transitions {

@@ -1,2 +1,3 @@
--- Laws of the steps of a transition: `Steps`, of the items that they have.
+-- Laws of the steps of a transition: `Steps`, of the items that they have; `Items`, that these lie inside the table.
 pub mod Steps
+pub mod Items

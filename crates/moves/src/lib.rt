@@ -7,6 +7,7 @@ ghost use lib.ListN.{getD};
 ghost use Rattle.words.specs.Loops.{when};
 ghost use Rattle.effects.specs.Work.{going, doStep, doSteps};
 ghost use Rattle.chart.specs.View.{view};
+ghost use Rattle.chart_rules.specs.Rules.{ChartRules};
 ghost use Rattle.states.specs.Cells.{cells};
 ghost use Rattle.meaning.specs.Steps.{leaveStep, takeStep, enterStep};
 ghost use Rattle.active.specs.Ranks.{Ranks};
@@ -16,10 +17,10 @@ use states::StateSet;
 
 // Whether state j is to be left: an and-state that was active, below `top`, the scope.
 fn is_left(t: &[u16], top: usize, acts: StateSet, j: usize) -> bool
-    requires { ⌜ j < 48 ⌝ }
+    requires { ⌜ ChartRules (now t) × (j < view (now t) .states) ⌝ }
     ensures { λ r. ⌜ r ≡ leftBelow (view (now (t .entry))) (cells acts) top j ⌝ }
 {
-    if !words::both(chart::is_and(t, j), states::has(acts, j)) {
+    if !words::both(chart::is_and(t, j), states::has_in(acts, j)) {
         return false;
     }
     active::is_beneath(t, top, j)
@@ -37,7 +38,7 @@ fn leave_one(
     queue: &mut [u16],
     n: Progress,
 ) -> Progress
-    requires { ⌜ j < 48 ⌝ }
+    requires { ⌜ ChartRules (now t) × (j < view (now t) .states) ⌝ }
     ensures { λ r. ⌜ ((next : List ℕ) → going r next (now (vars .exit)) (now (outs .exit)) (now (queue .exit)) ≡ doSteps room (when (leftBelow (view (now (t .entry))) (cells acts) top j) (leaveStep (view (now (t .entry))) j)) (going n next (now (vars .entry)) (now (outs .entry)) (now (queue .entry)))) ⌝ }
 {
     if !is_left(t, top, acts, j) {
@@ -66,11 +67,11 @@ pub fn leave_all(
     queue: &mut [u16],
     n: Progress,
 ) -> Progress
-    requires { ⌜ view (now t) .states ≤ 48 ⌝ }
+    requires { ⌜ ChartRules (now t) ⌝ }
     ensures { λ r. ⌜ ((next : List ℕ) → going r next (now (vars .exit)) (now (outs .exit)) (now (queue .exit)) ≡ doSteps room (leavesBelow (view (now (t .entry))) (cells acts) top) (going n next (now (vars .entry)) (now (outs .entry)) (now (queue .entry)))) ⌝ }
 {
     let mut m = n;
-    let mut j = words::number(t, chart::STATES);
+    let mut j = chart::head(t, chart::STATES);
     while 0 < j {
         j -= 1;
         m = leave_one(t, top, acts, j, room, vars, outs, queue, m);
@@ -91,10 +92,10 @@ fn enter_one(
     queue: &mut [u16],
     n: Progress,
 ) -> Progress
-    requires { ⌜ (j < 48) × Ranks (view (now t)) (now ranks) × (getD (cells entered) j false ≡ true → view (now t) .parent j < view (now t) .states) ⌝ }
+    requires { ⌜ ChartRules (now t) × (j < view (now t) .states) × Ranks (view (now t)) (now ranks) × (getD (cells entered) j false ≡ true → view (now t) .parent j < view (now t) .states) ⌝ }
     ensures { λ r. ⌜ going r (now (next .exit)) (now (vars .exit)) (now (outs .exit)) (now (queue .exit)) ≡ doSteps room (when (getD (cells entered) j false) (enterStep (view (now (t .entry))) j)) (going n (now (next .entry)) (now (vars .entry)) (now (outs .entry)) (now (queue .entry))) ⌝ }
 {
-    if !states::has(entered, j) {
+    if !states::has_in(entered, j) {
         return n;
     }
     let o = chart::state_word(t, j, chart::PARENT);
@@ -123,10 +124,10 @@ pub fn enter_all(
     queue: &mut [u16],
     n: Progress,
 ) -> Progress
-    requires { ⌜ (view (now t) .states ≤ 48) × Ranks (view (now t)) (now ranks) × ((j : ℕ) → getD (cells entered) j false ≡ true → view (now t) .parent j < view (now t) .states) ⌝ }
+    requires { ⌜ ChartRules (now t) × Ranks (view (now t)) (now ranks) × ((j : ℕ) → getD (cells entered) j false ≡ true → view (now t) .parent j < view (now t) .states) ⌝ }
     ensures { λ r. ⌜ going r (now (next .exit)) (now (vars .exit)) (now (outs .exit)) (now (queue .exit)) ≡ doSteps room (entersAll (view (now (t .entry))) (cells entered)) (going n (now (next .entry)) (now (vars .entry)) (now (outs .entry)) (now (queue .entry))) ⌝ }
 {
-    let states = words::number(t, chart::STATES);
+    let states = chart::head(t, chart::STATES);
     let mut m = n;
     let mut j = 0;
     while j < states {
@@ -146,7 +147,7 @@ pub fn take_own(
     queue: &mut [u16],
     n: Progress,
 ) -> Progress
-    requires { ⌜ k < 48 ⌝ }
+    requires { ⌜ ChartRules (now t) × (k < view (now t) .transitions) ⌝ }
     ensures { λ r. ⌜ ((next : List ℕ) → going r next (now (vars .exit)) (now (outs .exit)) (now (queue .exit)) ≡ doStep room (takeStep (view (now (t .entry))) k) (going n next (now (vars .entry)) (now (outs .entry)) (now (queue .entry)))) ⌝ }
 {
     effects::run_span(

@@ -7,6 +7,7 @@ ghost use Prim.Native.Nat.{suc, _+_, _<_, _≤_};
 ghost use lib.ListN.{length, set};
 ghost use Rattle.words.specs.Loops.{rank};
 ghost use Rattle.chart.specs.View.{view, isAnd};
+ghost use Rattle.chart.specs.Readable.{Readable};
 ghost use Rattle.chart_rules.specs.Rules.{ChartRules};
 ghost use Rattle.states.specs.Cells.{cells};
 ghost use Rattle.meaning.specs.Scope.{scope};
@@ -53,7 +54,7 @@ enum Which {
 
 // Whether state j is one of them.
 fn is_numbered(t: &[u16], which: Which, j: usize) -> bool
-    requires { ⌜ j < 1000000 ⌝ }
+    requires { ⌜ Readable (now t) × (j < view (now t) .states) ⌝ }
     ensures { λ r. ⌜ r ≡ numbered? (view (now (t .entry))) which j ⌝ }
 {
     match which {
@@ -134,7 +135,7 @@ pub fn taken_numbers(t: &[u16], actives: &[u16], first: usize, takens: &mut [u16
 // The guard of what is above state j, for a transition with the scope `top` and the guard `taken`; `refers` has those of the
 // states before j.
 pub fn above_number(t: &[u16], top: usize, j: usize, taken: usize, refers: &[u16]) -> usize
-    requires { ⌜ (j < 48) × (taken < 65536) ⌝ }
+    requires { ⌜ ChartRules (now t) × (j < view (now t) .states) × (view (now t) .parent j < view (now t) .states) × (taken < 65536) ⌝ }
     ensures is { λ r. ⌜ r ≡ aboveIn (view (now (t .entry))) top taken j (now (refers .entry)) ⌝ }
     ensures small { λ r. ⌜ r < 65536 ⌝ }
 {
@@ -158,7 +159,7 @@ fn refer_number(
     next: usize,
     refers: &[u16],
 ) -> usize
-    requires { ⌜ (j < 48) × (taken < 65536) × (next < 65536) ⌝ }
+    requires { ⌜ ChartRules (now t) × (j < view (now t) .states) × (taken < 65536) × (next < 65536) ⌝ }
     ensures is { λ r. ⌜ r ≡ cond (isAnd (view (now (t .entry))) j) (cond fork next (aboveIn (view (now (t .entry))) top taken j (now (refers .entry)))) 0 ⌝ }
     ensures small { λ r. ⌜ r < 65536 ⌝ }
 {

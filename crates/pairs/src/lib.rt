@@ -5,6 +5,7 @@ ghost use mathlib.Core.Bool.{not, _&&_};
 ghost use Prim.Native.Nat.{_<_};
 ghost use Rattle.words.specs.Loops.{any, anyBelow};
 ghost use Rattle.chart.specs.View.{view, isAnd};
+ghost use Rattle.chart.specs.Readable.{Readable};
 ghost use Rattle.chart.specs.Literals.{literalIn};
 ghost use Rattle.chart_rules.specs.Rules.{ChartRules};
 ghost use Rattle.meaning.specs.Scope.{beneath, scope, scoped};
@@ -28,18 +29,18 @@ fn can_meet(t: &[u16], a: usize, j: usize) -> bool
 
 // Whether state j is an and-state with exit items.
 fn has_exits(t: &[u16], j: usize) -> bool
-    requires { ⌜ j < 48 ⌝ }
+    requires { ⌜ Readable (now t) × (j < view (now t) .states) ⌝ }
     ensures { λ r. ⌜ r ≡ (isAnd (view (now (t .entry))) j && some? (view (now (t .entry)) .exits j)) ⌝ }
 {
     words::both(
         chart::is_and(t, j),
-        words::number(t, chart::state_at(t, j) + chart::EXITS + 1) != 0,
+        chart::state_word(t, j, chart::EXITS + 1) != 0,
     )
 }
 
 // Whether transition k has targets, and state j is below `top`.
 fn is_inside(t: &[u16], k: usize, top: usize, j: usize) -> bool
-    requires { ⌜ k < 48 ⌝ }
+    requires { ⌜ Readable (now t) × (k < view (now t) .transitions) ⌝ }
     ensures { λ r. ⌜ r ≡ (scoped (view (now (t .entry))) k && beneath (view (now (t .entry))) top j) ⌝ }
 {
     words::both(taken::is_scoped(t, k), active::is_beneath(t, top, j))
@@ -99,7 +100,7 @@ pub fn is_bare(t: &[u16], k: usize) -> bool
     requires { ⌜ ChartRules (now t) × (k < view (now t) .transitions) ⌝ }
     ensures { λ r. ⌜ r ≡ bare (view (now (t .entry))) k ⌝ }
 {
-    if words::number(t, chart::transition_at(t, k) + chart::ASKS + 1) != 0 {
+    if chart::transition_word(t, k, chart::ASKS + 1) != 0 {
         return false;
     }
     is_unblocked(t, k)
@@ -107,7 +108,7 @@ pub fn is_bare(t: &[u16], k: usize) -> bool
 
 // Whether history decides if transition k enters state j.
 pub fn is_decided(t: &[u16], k: usize, j: usize) -> bool
-    requires { ⌜ ChartRules (now t) × (k < view (now t) .transitions) × (j < view (now t) .states) ⌝ }
+    requires { ⌜ ChartRules (now t) × (k < view (now t) .transitions) × (j < view (now t) .states) × (view (now t) .parent j < view (now t) .states) ⌝ }
     ensures { λ r. ⌜ r ≡ decides (view (now (t .entry))) k j ⌝ }
 {
     let o = chart::state_word(t, j, chart::PARENT);
@@ -116,7 +117,7 @@ pub fn is_decided(t: &[u16], k: usize, j: usize) -> bool
 
 // Whether literal i names state j.
 fn does_name(t: &[u16], i: usize, j: usize) -> bool
-    requires { ⌜ i < 1000000 ⌝ }
+    requires { ⌜ Readable (now t) × (i < view (now t) .literals) ⌝ }
     ensures { λ r. ⌜ r ≡ mentions (view (now (t .entry))) j (literalIn (view (now (t .entry)) .literal i)) ⌝ }
 {
     let literal = chart::literal_at(t, i);
@@ -130,12 +131,11 @@ fn does_name(t: &[u16], i: usize, j: usize) -> bool
 
 // Whether a literal of transition k names state j.
 fn is_named(t: &[u16], k: usize, j: usize) -> bool
-    requires { ⌜ k < 48 ⌝ }
+    requires { ⌜ ChartRules (now t) × (k < view (now t) .transitions) ⌝ }
     ensures { λ r. ⌜ r ≡ any (mentions (view (now (t .entry))) j) (literalsOf (view (now (t .entry))) k) ⌝ }
 {
-    let at = chart::transition_at(t, k);
-    let mut i = words::number(t, at + chart::ASKS);
-    let mut left = words::number(t, at + chart::ASKS + 1);
+    let mut i = chart::transition_word(t, k, chart::ASKS);
+    let mut left = chart::transition_word(t, k, chart::ASKS + 1);
     while 0 < left {
         if does_name(t, i, j) {
             return true;

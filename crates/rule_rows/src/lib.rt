@@ -6,6 +6,7 @@ ghost use Prim.Native.Nat.{_+_, _<_, _≤_};
 ghost use lib.ListN.{length, getD};
 ghost use Rattle.words.specs.Loops.{joinUp, joinDown};
 ghost use Rattle.chart.specs.View.{view};
+ghost use Rattle.chart.specs.Readable.{Readable};
 ghost use Rattle.chart_rules.specs.Rules.{ChartRules};
 ghost use Rattle.states.specs.Cells.{cells};
 ghost use Rattle.meaning.specs.Scope.{scope};
@@ -21,21 +22,21 @@ use states::StateSet;
 
 // The trigger of transition k.
 fn trigger_of(t: &[u16], k: usize) -> u16
-    requires { ⌜ k < 48 ⌝ }
+    requires { ⌜ Readable (now t) × (k < view (now t) .transitions) ⌝ }
     ensures { λ r. ⌜ r ≡ view (now (t .entry)) .trigger k ⌝ }
 {
-    words::word(t, chart::transition_at(t, k) + chart::TRIGGER)
+    chart::transition_word(t, k, chart::TRIGGER) as u16
 }
 
 // The span of items whose two words begin at `from`.
 fn items_at(t: &[u16], from: usize) -> Items
-    requires { ⌜ from < 1000000 ⌝ }
+    requires { ⌜ from + 1 < length (now t) ⌝ }
     ensures first { λ r. ⌜ r .first ≡ getD (now (t .entry)) from 0 ⌝ }
     ensures count { λ r. ⌜ r .count ≡ getD (now (t .entry)) (from + 1) 0 ⌝ }
 {
     Items {
-        first: words::word(t, from),
-        count: words::word(t, from + 1),
+        first: words::word_in(t, from),
+        count: words::word_in(t, from + 1),
     }
 }
 
@@ -107,7 +108,7 @@ fn lay_own(t: &[u16], k: usize, takens: &[u16], room: &mut [u16], at: usize) -> 
 
 // The target of the rule by which transition k enters state j: none where history decides.
 fn target_of(t: &[u16], k: usize, j: usize, ands: &[u16]) -> u16
-    requires { ⌜ ChartRules (now t) × (k < view (now t) .transitions) × (j < view (now t) .states) × AndRanks (view (now t)) (now ands) ⌝ }
+    requires { ⌜ ChartRules (now t) × (k < view (now t) .transitions) × (j < view (now t) .states) × (view (now t) .parent j < view (now t) .states) × AndRanks (view (now t)) (now ands) ⌝ }
     ensures { λ r. ⌜ r ≡ cond (decides (view (now (t .entry))) k j) 65535 (andRank (view (now (t .entry))) j) ⌝ }
 {
     if pairs::is_decided(t, k, j) {

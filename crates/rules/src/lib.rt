@@ -1,4 +1,4 @@
-// A microstep of a flat table: its rules in order, where the trigger matches and both guards hold. The specs of
+// A microstep of a flat table that is accepted: its rules in order, where the trigger matches and both guards hold. The specs of
 // `flat_meaning` say which steps a microstep has; here they are gone through.
 ghost use mathlib.Core.Path.{_≡_};
 ghost use Prim.Native.Nat.{_*_, _<_, _≤_};
@@ -7,6 +7,8 @@ ghost use Rattle.words.specs.Loops.{when};
 ghost use Rattle.effects.specs.Run.{setAll};
 ghost use Rattle.effects.specs.Work.{going, doSteps};
 ghost use Rattle.flat.specs.View.{flatView};
+ghost use Rattle.flat.specs.Readable.{FlatReadable};
+ghost use Rattle.flat_rules.specs.Rules.{FlatRules};
 ghost use Rattle.flat_meaning.specs.Steps.{targetSet, ruleStep, fires?, firing, flatMachine};
 ghost use Rattle.marks.specs.Bits.{marked};
 use effects::Progress;
@@ -14,28 +16,26 @@ use table::Trigger;
 
 // Whether rule k fires for trigger e, where `marks` has the guards that are true.
 fn does_fire(t: &[u16], marks: &[u16], e: usize, k: usize) -> bool
-    requires { ⌜ k < 100000 ⌝ }
+    requires { ⌜ FlatReadable (now t) × (k < flatView (now t) .rules) ⌝ }
     ensures { λ r. ⌜ r ≡ fires? (flatView (now (t .entry))) e (marked (now (marks .entry))) k ⌝ }
 {
-    let at = flat::rule_at(t, k);
-    if words::number(t, at + flat::TRIGGER) != e {
+    if flat::rule_word(t, k, flat::TRIGGER) != e {
         return false;
     }
-    if !marks::has(marks, words::number(t, at + flat::FIRST_GUARD)) {
+    if !marks::has(marks, flat::rule_word(t, k, flat::FIRST_GUARD)) {
         return false;
     }
-    marks::has(marks, words::number(t, at + flat::SECOND_GUARD))
+    marks::has(marks, flat::rule_word(t, k, flat::SECOND_GUARD))
 }
 
 // Rule k's target is to be current in its machine, where it has one.
 fn aim(t: &[u16], k: usize, next: &mut [u16])
-    requires { ⌜ k < 100000 ⌝ }
+    requires { ⌜ FlatRules (now t) × (k < flatView (now t) .rules) ⌝ }
     ensures { λ r. ⌜ now (next .exit) ≡ setAll (targetSet (flatView (now (t .entry))) k) (now (next .entry)) ⌝ }
 {
-    let target = words::word(t, flat::rule_at(t, k) + flat::TARGET);
-    let j = words::wide(target);
+    let j = flat::rule_word(t, k, flat::TARGET);
     if j != flat::NONE {
-        words::put(next, flat::machine_of(t, j), target);
+        words::put(next, flat::machine_of(t, j), j as u16);
     }
 }
 
@@ -52,7 +52,7 @@ fn fire_one(
     queue: &mut [u16],
     n: Progress,
 ) -> Progress
-    requires { ⌜ k < 100000 ⌝ }
+    requires { ⌜ FlatRules (now t) × (k < flatView (now t) .rules) ⌝ }
     ensures { λ r. ⌜ going r (now (next .exit)) (now (vars .exit)) (now (outs .exit)) (now (queue .exit)) ≡ doSteps room (when (fires? (flatView (now (t .entry))) e (marked (now (marks .entry))) k) (ruleStep (flatView (now (t .entry))) k)) (going n (now (next .entry)) (now (vars .entry)) (now (outs .entry)) (now (queue .entry))) ⌝ }
 {
     if !does_fire(t, marks, e, k) {
@@ -83,9 +83,10 @@ fn fire_all(
     queue: &mut [u16],
     n: Progress,
 ) -> Progress
+    requires { ⌜ FlatRules (now t) ⌝ }
     ensures { λ r. ⌜ going r (now (next .exit)) (now (vars .exit)) (now (outs .exit)) (now (queue .exit)) ≡ doSteps room (firing (flatView (now (t .entry))) e (marked (now (marks .entry)))) (going n (now (next .entry)) (now (vars .entry)) (now (outs .entry)) (now (queue .entry))) ⌝ }
 {
-    let rules = words::number(t, flat::RULES);
+    let rules = flat::head(t, flat::RULES);
     let mut m = n;
     let mut k = 0;
     while k < rules {
@@ -107,7 +108,7 @@ pub fn run(
     queue: &mut [u16],
     n: Progress,
 ) -> Progress
-    requires { ⌜ flatView (now t) .guards ≤ 16 * length (now marks) ⌝ }
+    requires { ⌜ FlatRules (now t) × (flatView (now t) .guards ≤ 16 * length (now marks)) ⌝ }
     ensures { λ r. ⌜ going r (now (next .exit)) (now (vars .exit)) (now (outs .exit)) (now (queue .exit)) ≡ doSteps room (flatMachine (flatView (now (t .entry))) (e .0) (now (next .entry)) (now (vars .entry))) (going n (now (next .entry)) (now (vars .entry)) (now (outs .entry)) (now (queue .entry))) ⌝ }
 {
     guards::evaluate(t, next, vars, marks);

@@ -34,7 +34,8 @@ fn is_or(t: &[u16], k: usize) -> usize
     requires { ⌜ k ≤ 65535 ⌝ }
     ensures { λ r. ⌜ r ≤ 1 ⌝ }
 {
-    if chart::is_and(t, k) { 0 } else { 1 }
+    let kind = words::number(t, words::number(t, chart::STATES_AT) + 7 * k + chart::KIND);
+    if kind == 2 { 0 } else { 1 }
 }
 
 // How many words of `room` a state of this chart takes: one for each or-state, and the variables.

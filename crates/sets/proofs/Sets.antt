@@ -1,14 +1,19 @@
 -- The tests by which sets are filled. Assumes nothing.
 use Prim.Native.Nat.{ℕ, _<_}
-use mathlib.Core.Path.{_≡_, refl, ap}
+use mathlib.Core.Path.{_≡_, refl, sym, ap, _∙_}
 use mathlib.Core.Bool.{Bool, true, false, _&&_}
 use mathlib.Core.List.{List}
+use native.Mathlib.Omega.{arith}
 use lib.ListN.{getD}
 use Rattle.words.specs.Loops.{anyBelow}
-use Rattle.chart.specs.View.{Chart}
+use Rattle.words.proofs.Tests.{and-l, and-r}
+use Rattle.chart.specs.View.{Chart, isAnd}
 use Rattle.chart.specs.Tree.{within}
+use Rattle.meaning.specs.Scope.{scoped}
 use Rattle.meaning.specs.Entered.{reached}
-use Rattle.flattening.specs.Flattened.{mayAt}
+use Rattle.meaning.proofs.Tree.{Tree, up-lt}
+use Rattle.flattening.specs.Flattened.{mayAt, may}
+use Rattle.flattening.proofs.Turns.{may-now}
 use Rattle.pairs.proofs.Below.{any-same}
 
 module _ (c : Chart) where
@@ -17,6 +22,13 @@ module _ (c : Chart) where
       → getD a (c .parent (c .parent j)) false ≡ getD b (c .parent (c .parent j)) false → mayAt c t j a ≡ mayAt c t j b
   unfolding mayAt reached
   same-may t j a b e = rw e refl
+
+  -- a state that can be entered is an and-state, whose parent is a state
+  pub may-parent : Tree c → (t j : ℕ) → j < c .states → may c t j ≡ true → c .parent j < c .states
+  unfolding mayAt
+  may-parent w t j h e =
+      let here = and-r (scoped c t) _ (sym (may-now c t j h) ∙ e) in
+      omega (arith, h, up-lt w j h (and-l (isAnd c j) _ here))
 
   -- what is above some state of a set
   pub above-same : (s : List Bool) (p : ℕ → Bool) → ((k : ℕ) → k < c .states → getD s k false ≡ p k) → (j : ℕ)

@@ -16,7 +16,7 @@ use states::StateSet;
 
 // Whether transition k can choose j in the or-state above it.
 fn can_choose(t: &[u16], k: usize, j: usize) -> bool
-    requires { ⌜ (k < 48) × (j < 48) ⌝ }
+    requires { ⌜ ChartRules (now t) × (k < view (now t) .transitions) × (j < view (now t) .states) × (view (now t) .parent j < view (now t) .states) ⌝ }
     ensures { λ r. ⌜ r ≡ canChoose (view (now (t .entry))) k j ⌝ }
 {
     let o = chart::state_word(t, j, chart::PARENT);
@@ -31,7 +31,7 @@ fn can_choose(t: &[u16], k: usize, j: usize) -> bool
 
 // Whether transition k, whose scope is `top`, can enter state j, where `can` has those before j.
 fn can_enter(t: &[u16], k: usize, top: usize, j: usize, can: StateSet) -> bool
-    requires { ⌜ (k < 48) × (j < 48) × (top ≡ scope (view (now t)) k) ⌝ }
+    requires { ⌜ ChartRules (now t) × (k < view (now t) .transitions) × (j < view (now t) .states) × (top ≡ scope (view (now t)) k) ⌝ }
     ensures { λ r. ⌜ r ≡ mayAt (view (now (t .entry))) k j (cells can) ⌝ }
 {
     if !chart::is_and(t, j) {
@@ -72,7 +72,7 @@ fn does_come(t: &[u16], k: usize, can: StateSet, j: usize) -> bool
     if !pairs::is_decided(t, k, j) {
         return true;
     }
-    words::number(t, chart::state_at(t, j) + chart::ENTRIES + 1) != 0
+    chart::state_word(t, j, chart::ENTRIES + 1) != 0
 }
 
 // The states that transition k can enter with items or with a target.

@@ -5,10 +5,10 @@ use mathlib.Core.Bool.{Bool, false}
 use mathlib.Core.List.{List}
 use native.Mathlib.Decide.{ℕ-discrete}
 use native.Mathlib.Omega.{arith}
-use lib.ListN.{length, getD, set, length-set}
+use lib.ListN.{length, getD, set, length-set, List·getD-eq-default}
 use lib.Seq.{getD-set-same, getD-set-other}
 use Rattle.words.specs.Loops.{tab, many}
-use Rattle.words.proofs.Loops.{tab-next, tab-off}
+use Rattle.words.proofs.Loops.{tab-length, tab-next, tab-off}
 use Rattle.states.specs.Cells.{noCells}
 
 -- s has the cells that g makes, as far as k
@@ -23,6 +23,10 @@ module _ (g : ℕ → List Bool → Bool) where
 
   pub filled-none : Filled g 0 noCells
   filled-none j = many-false 0 48 j
+
+  -- what is not made yet is not in it
+  pub not-yet : (k : ℕ) (s : List Bool) → Filled g k s → getD s k false ≡ false
+  not-yet k s f = f k ∙ List·getD-eq-default (tab g k) false (omega (arith, tab-length g k))
 
   pub filled-next : (k : ℕ) (s : List Bool) (v : Bool) → k < length s → v ≡ g k (tab g k) → Filled g k s → Filled g (k + 1) (set s k v)
   filled-next k s v l e f j =

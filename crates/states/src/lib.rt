@@ -43,14 +43,35 @@ fn without_bit(m: u64, k: usize) -> u64
     (m | b) ^ b
 }
 
+// Whether k, which is below 48, is in the set.
+pub fn has_in(s: StateSet, k: usize) -> bool
+    requires { ⌜ k < 48 ⌝ }
+    ensures { λ r. ⌜ r ≡ getD (cells s) k false ⌝ }
+{
+    has_bit(s.bits, k)
+}
+
 // Whether k is in the set.
 pub fn has(s: StateSet, k: usize) -> bool
     ensures { λ r. ⌜ r ≡ getD (cells s) k false ⌝ }
 {
     if k < 48 {
-        return has_bit(s.bits, k);
+        return has_in(s, k);
     }
     false
+}
+
+// The set, which has not k, with k in it where b says so.
+pub fn grown(s: StateSet, k: usize, b: bool) -> StateSet
+    requires { ⌜ (k < 48) × (getD (cells s) k false ≡ false) ⌝ }
+    ensures { λ r. ⌜ cells r ≡ set (cells s) k b ⌝ }
+{
+    if b {
+        return StateSet {
+            bits: with_bit(s.bits, k),
+        };
+    }
+    s
 }
 
 // The set with k in it or not, as b says.

@@ -9,9 +9,9 @@ use native.Mathlib.Numerals.{add-one}
 use lib.Dec.{ltb}
 use lib.ListN.{length, drop}
 use lib.Seq.{drop-cons}
-use Rattle.words.proofs.Tests.{ltb-lt, ltb-yes, ltb-ge, ltb-no, clash}
+use Rattle.words.proofs.Tests.{ltb-lt, ltb-yes, ltb-ge, ltb-no, clash, last-or}
 use Rattle.words.proofs.Loops.{Lowest, lowest}
-use Rattle.table.specs.Check.{Rule, noRule, ruleAt, lowestBad, answer, Kept, LowestBroken, Judged, all-kept, lowest-broken}
+use Rattle.table.specs.Check.{Rule, noRule, ruleAt, lowestBad, answer, Kept, KeptBefore, LowestBroken, Judged, all-kept, lowest-broken}
 
 -- ---- for the loop that goes through the rules
 module _ (first : ℕ) (rs : List Rule) (k : ℕ) where
@@ -32,6 +32,10 @@ module _ (first : ℕ) (rs : List Rule) (k : ℕ) where
 -- ---- what the answer says
 kept : (r : Rule) → r .places ≤ lowestBad r → Kept r
 kept r h i l = lowest (r .keeps) (r .places) 0 .before i (omega arith) (omega arith)
+
+-- the rules before the next one, once rule k has no bad place
+pub kept-next : (rs : List Rule) (k : ℕ) → KeptBefore rs k → ruleAt rs k .places ≤ lowestBad (ruleAt rs k) → KeptBefore rs (k + 1)
+kept-next rs k h l j g = last-or j k (omega arith) (h j) (λ e. rw e (kept (ruleAt rs k) l))
 
 more : (r : Rule) (rs : List Rule) (first : ℕ) (a : ℕ × ℕ) → Kept r → Judged (first + 1) rs a → Judged first (r ∷ rs) a
 more r rs first _ h (all-kept g) = all-kept λ k l. go k l

@@ -35,13 +35,17 @@ answer first (r ∷ rs) = cond (ltb (lowestBad r) (r .places)) (first, lowestBad
 abbrev pub Kept : Rule → Type 0
 Kept r = (i : ℕ) → i < r .places → r .keeps i ≡ true
 
+-- The rules before rule k are kept.
+abbrev pub KeptBefore : List Rule → ℕ → Type 0
+KeptBefore rs k = (j : ℕ) → j < k → Kept (ruleAt rs j)
+
 -- Place p breaks rule k, and nothing before it is broken: no place of a rule before k, and no place of k before p.
 pub record LowestBroken (rs : List Rule) (k p : ℕ) : Type 0 where
   pub a-rule : k < length rs
   pub a-place : p < ruleAt rs k .places
   pub broken : ruleAt rs k .keeps p ≡ false
   pub places-before : (i : ℕ) → i < p → ruleAt rs k .keeps i ≡ true
-  pub rules-before : (j : ℕ) → j < k → Kept (ruleAt rs j)
+  pub rules-before : KeptBefore rs k
 
 -- What an answer says of the rules.
 pub data Judged (first : ℕ) (rs : List Rule) : ℕ × ℕ → Type 0 where

@@ -4,7 +4,7 @@ ghost use mathlib.Core.Path.{_≡_};
 ghost use mathlib.Core.Bool.{Bool};
 ghost use Prim.Native.Nat.{ℕ, _+_, _<_, _≤_};
 ghost use lib.Dec.{ltb, leb};
-ghost use lib.ListN.{getD};
+ghost use lib.ListN.{length, getD};
 ghost use Rattle.table.specs.Numbers.{triggerOf};
 ghost use Rattle.table.specs.Triple.{tripleAt};
 ghost use Rattle.table.specs.Items.{itemOf, itemIn};
@@ -53,13 +53,13 @@ pub fn item_of(kind: u16, a: u16, b: u16) -> Item
 
 // The item whose three words begin at `at`.
 pub fn item_at(t: &[u16], at: usize) -> Item
-    requires { ⌜ at < 10000000 ⌝ }
+    requires { ⌜ at + 2 < length (now t) ⌝ }
     ensures { λ r. ⌜ r ≡ itemIn (tripleAt (now (t .entry)) at) ⌝ }
 {
     item_of(
-        words::word(t, at),
-        words::word(t, at + 1),
-        words::word(t, at + 2),
+        words::word_in(t, at),
+        words::word_in(t, at + 1),
+        words::word_in(t, at + 2),
     )
 }
 
@@ -151,39 +151,40 @@ fn good_item(kind: u16, a: u16, b: u16, n: Counts) -> bool
 
 // Whether the three words that begin at `at` are one.
 pub fn good_item_at(t: &[u16], at: usize, n: Counts) -> bool
-    requires { ⌜ at < 10000000 ⌝ }
+    requires { ⌜ at + 2 < length (now t) ⌝ }
     ensures { λ r. ⌜ r ≡ goodItemIn? n (tripleAt (now (t .entry)) at) ⌝ }
 {
     good_item(
-        words::word(t, at),
-        words::word(t, at + 1),
-        words::word(t, at + 2),
+        words::word_in(t, at),
+        words::word_in(t, at + 1),
+        words::word_in(t, at + 2),
         n,
     )
 }
 
 // Whether count word i of a header is in its range.
 pub fn count_between(t: &[u16], i: usize, low: usize, high: usize) -> bool
+    requires { ⌜ i < length (now t) ⌝ }
     ensures { λ r. ⌜ r ≡ between? low high (getD (now (t .entry)) i 0) ⌝ }
 {
-    words::between(low, high, words::number(t, i))
+    words::between(low, high, words::number_in(t, i))
 }
 
 // Whether the section at offset word `next` begins where the section at offset word `here` ends, of as many records of
 // `size` words as word `count` says.
 pub fn follows(t: &[u16], next: usize, here: usize, size: usize, count: usize) -> bool
-    requires { ⌜ size < 100 ⌝ }
+    requires { ⌜ (next < length (now t)) × (here < length (now t)) × (size < 100) × (count < length (now t)) ⌝ }
     ensures { λ r. ⌜ r ≡ follows? (now (t .entry)) next here size count ⌝ }
 {
-    words::number(t, next) == words::number(t, here) + size * words::number(t, count)
+    words::number_in(t, next) == words::number_in(t, here) + size * words::number_in(t, count)
 }
 
 // Whether the span whose two words begin at `at` lies inside a section of as many records as word `count` says.
 pub fn span_inside(t: &[u16], at: usize, count: usize) -> bool
-    requires { ⌜ at < 10000000 ⌝ }
+    requires { ⌜ (at + 1 < length (now t)) × (count < length (now t)) ⌝ }
     ensures { λ r. ⌜ r ≡ inside? (spanAt (now (t .entry)) at) (getD (now (t .entry)) count 0) ⌝ }
 {
-    words::number(t, at) + words::number(t, at + 1) <= words::number(t, count)
+    words::number_in(t, at) + words::number_in(t, at + 1) <= words::number_in(t, count)
 }
 
 // What a call refuses, with the place where the paper names one.

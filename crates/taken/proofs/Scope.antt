@@ -1,9 +1,9 @@
 -- Going up from a transition's source: each state that is above all is above the state come to, so the first one met is
--- the greatest. Assumes nothing.
+-- the greatest. And which scopes are related. Assumes nothing.
 use Prim.Native.Nat.{ℕ, _<_, _≤_}
-use mathlib.Core.Path.{_≡_, sym, _∙_}
+use mathlib.Core.Path.{_≡_, refl, sym, _∙_}
 use mathlib.Core.Logic.{_≢_}
-use mathlib.Core.Bool.{true, false}
+use mathlib.Core.Bool.{Bool, true, false, _&&_, _||_}
 use native.Mathlib.Omega.{arith}
 use lib.Dec.{eqb}
 use Rattle.words.specs.Loops.{greatest}
@@ -11,19 +11,20 @@ use Rattle.words.proofs.Tests.{by-bool, eqb-no, eqb-ne, and-l, and-r, and-i, no
 use Rattle.words.proofs.Loops.{greatest-passes, greatest-most, greatest-none}
 use Rattle.chart.specs.View.{Chart}
 use Rattle.chart.specs.Tree.{within}
-use Rattle.chart.proofs.Within.{within-le, within-up}
+use Rattle.chart.proofs.Within.{within-self, within-le, within-up}
 use Rattle.meaning.specs.Active.{isOr}
-use Rattle.meaning.specs.Scope.{beneath, aboveAll, scope}
+use Rattle.meaning.specs.Scope.{beneath, aboveAll, scope, scoped, related}
 
--- o is a state, and each state that is above all of transition k is above it
+-- o is a state, what is at or above it is so for transition k's source, and each state that is above all of k is above it
 pub record Under (c : Chart) (k o : ℕ) : Type 0 where
   pub state : o < c .states
+  pub over : (j : ℕ) → within c j o ≡ true → within c j (c .source k) ≡ true
   pub under : (j : ℕ) → aboveAll c k j ≡ true → beneath c j o ≡ true
 
 module _ (c : Chart) (k : ℕ) where
   pub at-source : c .source k < c .states → Under c k (c .source k)
   unfolding aboveAll
-  at-source h = record { state = h; under = λ j e. and-l (beneath c j (c .source k)) _ (and-r (isOr c j) _ e) }
+  at-source h = record { state = h; over = λ j w. w; under = λ j e. and-l (beneath c j (c .source k)) _ (and-r (isOr c j) _ e) }
 
   smaller : (j o : ℕ) → o < c .states → beneath c j o ≡ true → j < o
   unfolding beneath
@@ -41,6 +42,22 @@ module _ (c : Chart) (k : ℕ) where
 
   -- one step up
   module _ (o : ℕ) (u : Under c k o) (up : c .parent o < o) where
+    parent-in : c .parent o < c .states
+    parent-in = omega (arith, u .state)
+
+    over-parent : (j : ℕ) → within c j (c .parent o) ≡ true → within c j (c .source k) ≡ true
+    over-parent j w =
+        let l = within-le c j (c .parent o) parent-in w in
+        u .over j (within-up c j o (omega arith) (u .state) up ∙ w)
+
+    pub above-source : c .source k < c .states → beneath c (c .parent o) (c .source k) ≡ true
+    unfolding beneath
+    above-source h =
+        let s = c .source k in
+        let l = within-le c o s h (u .over o (within-self c o (u .state))) in
+        let other : c .parent o ≢ s = λ e. absurd (omega arith) in
+        and-i (over-parent (c .parent o) (within-self c (c .parent o) parent-in)) (not-no (eqb (c .parent o) s) (eqb-no other))
+
     at-parent : (j : ℕ) → aboveAll c k j ≡ true → within c j (c .parent o) ≡ true
     unfolding beneath
     at-parent j e =
@@ -51,7 +68,7 @@ module _ (c : Chart) (k : ℕ) where
     unfolding scope
     found e =
         let p = aboveAll c k in
-        let h : c .parent o < c .states = omega (arith, u .state) in
+        let h = parent-in in
         let g = greatest-passes p (c .states) (c .parent o) h e in
         let most = within-le c (greatest p (c .states)) (c .parent o) h (at-parent (greatest p (c .states)) g) in
         omega (arith, most, greatest-most p (c .states) (c .parent o) h e)
@@ -59,8 +76,29 @@ module _ (c : Chart) (k : ℕ) where
     pub not-yet : aboveAll c k (c .parent o) ≡ false → Under c k (c .parent o)
     unfolding beneath
     not-yet e = record {
-      state = omega (arith, u .state);
+      state = parent-in;
+      over = over-parent;
       under = λ j q.
           let other : j ≢ c .parent o = λ z. clash (aboveAll c k (c .parent o)) (rw z at q) e in
           and-i (at-parent j q) (not-no (eqb j (c .parent o)) (eqb-no other));
     }
+
+-- ---- related scopes
+second-first : (a b c : Bool) → ((a && b) && c) ≡ (b && (a && c))
+second-first true true c = refl
+second-first true false c = refl
+second-first false true c = refl
+second-first false false c = refl
+
+module _ (c : Chart) (s k : ℕ) where
+  -- what has no scope is related to nothing
+  pub unscoped : scoped c k ≡ false → related c s k ≡ false
+  unfolding related
+  unscoped e = rw (second-first (scoped c s) (scoped c k) (within c (scope c s) (scope c k) || within c (scope c k) (scope c s)), e) refl
+
+  -- of what has one, b, only the other is asked
+  pub near : (b : ℕ) (r : Bool) → scoped c k ≡ true → b ≡ scope c k
+      → r ≡ (scoped c s && (within c (scope c s) b || within c b (scope c s))) → r ≡ related c s k
+  unfolding related
+  near b r e q told =
+      rw (second-first (scoped c s) (scoped c k) (within c (scope c s) (scope c k) || within c (scope c k) (scope c s)), e, ← q) told

@@ -1,10 +1,12 @@
 // The transitions that a microstep takes: scope, literals, enabled, blocked. Every function is for an accepted chart.
 ghost use mathlib.Core.Path.{_≡_};
-ghost use mathlib.Core.Bool.{false, not, _&&_};
+ghost use mathlib.Core.Bool.{true, false, not, _&&_, _||_};
 ghost use Prim.Native.Nat.{ℕ, _<_};
 ghost use lib.ListN.{getD};
 ghost use Rattle.words.specs.Loops.{all, allBelow};
 ghost use Rattle.chart.specs.View.{view};
+ghost use Rattle.chart.specs.Readable.{Readable};
+ghost use Rattle.chart.specs.Tree.{within};
 ghost use Rattle.chart_rules.specs.Rules.{ChartRules};
 ghost use Rattle.states.specs.Cells.{cells};
 ghost use Rattle.meaning.specs.Scope.{beneath, targetsOf, aboveAll, scope, scoped, related};
@@ -14,12 +16,11 @@ use states::StateSet;
 
 // Whether every target of transition k is below o.
 fn all_beneath(t: &[u16], k: usize, o: usize) -> bool
-    requires { ⌜ k < 48 ⌝ }
+    requires { ⌜ ChartRules (now t) × (k < view (now t) .transitions) ⌝ }
     ensures { λ r. ⌜ r ≡ all (beneath (view (now (t .entry))) o) (targetsOf (view (now (t .entry))) k) ⌝ }
 {
-    let at = chart::transition_at(t, k);
-    let mut i = words::number(t, at + chart::AIMS);
-    let mut left = words::number(t, at + chart::AIMS + 1);
+    let mut i = chart::transition_word(t, k, chart::AIMS);
+    let mut left = chart::transition_word(t, k, chart::AIMS + 1);
     while 0 < left {
         if !active::is_beneath(t, o, chart::target_word(t, i)) {
             return false;
@@ -30,14 +31,15 @@ fn all_beneath(t: &[u16], k: usize, o: usize) -> bool
     true
 }
 
-// Whether o is an or-state above the source and every target of transition k.
+// Whether o, which is above the source of transition k, is an or-state above every target of it.
 fn is_above_all(t: &[u16], k: usize, o: usize) -> bool
-    requires { ⌜ (k < 48) × (o < 48) ⌝ }
+    requires { ⌜ ChartRules (now t) × (k < view (now t) .transitions) × (o < view (now t) .states) × (beneath (view (now t)) o (view (now t) .source k) ≡ true) ⌝ }
     ensures { λ r. ⌜ r ≡ aboveAll (view (now (t .entry))) k o ⌝ }
 {
-    let source = chart::transition_word(t, k, chart::SOURCE);
-    let above = words::both(active::is_beneath(t, o, source), all_beneath(t, k, o));
-    words::both(!chart::is_and(t, o), above)
+    if chart::is_and(t, o) {
+        return false;
+    }
+    all_beneath(t, k, o)
 }
 
 // The scope of transition k: going up from its source, the first or-state above every target.
@@ -58,10 +60,25 @@ pub fn scope_of(t: &[u16], k: usize) -> usize
 
 // Whether transition k has targets, and so a scope.
 pub fn is_scoped(t: &[u16], k: usize) -> bool
-    requires { ⌜ k < 48 ⌝ }
+    requires { ⌜ Readable (now t) × (k < view (now t) .transitions) ⌝ }
     ensures { λ r. ⌜ r ≡ scoped (view (now (t .entry))) k ⌝ }
 {
-    words::number(t, chart::transition_at(t, k) + chart::AIMS + 1) != 0
+    chart::transition_word(t, k, chart::AIMS + 1) != 0
+}
+
+// Whether transition s has a scope, and it and b are related.
+fn is_related(t: &[u16], s: usize, b: usize) -> bool
+    requires { ⌜ ChartRules (now t) × (s < view (now t) .transitions) ⌝ }
+    ensures { λ r. ⌜ r ≡ (scoped (view (now (t .entry))) s && (within (view (now (t .entry))) (scope (view (now (t .entry))) s) b || within (view (now (t .entry))) b (scope (view (now (t .entry))) s))) ⌝ }
+{
+    if !is_scoped(t, s) {
+        return false;
+    }
+    let a = scope_of(t, s);
+    if chart::is_within(t, a, b) {
+        return true;
+    }
+    chart::is_within(t, b, a)
 }
 
 // Whether the scopes of two transitions are related.
@@ -69,15 +86,10 @@ pub fn are_related(t: &[u16], s: usize, k: usize) -> bool
     requires { ⌜ ChartRules (now t) × (s < view (now t) .transitions) × (k < view (now t) .transitions) ⌝ }
     ensures { λ r. ⌜ r ≡ related (view (now (t .entry))) s k ⌝ }
 {
-    if !words::both(is_scoped(t, s), is_scoped(t, k)) {
+    if !is_scoped(t, k) {
         return false;
     }
-    let a = scope_of(t, s);
-    let b = scope_of(t, k);
-    if chart::is_within(t, a, b) {
-        return true;
-    }
-    chart::is_within(t, b, a)
+    is_related(t, s, scope_of(t, k))
 }
 
 // Whether a literal holds.
@@ -94,12 +106,11 @@ fn does_hold(literal: Literal, acts: StateSet, vars: &[u16]) -> bool
 
 // Whether all literals of transition k hold.
 fn meets_condition(t: &[u16], acts: StateSet, vars: &[u16], k: usize) -> bool
-    requires { ⌜ k < 48 ⌝ }
+    requires { ⌜ ChartRules (now t) × (k < view (now t) .transitions) ⌝ }
     ensures { λ r. ⌜ r ≡ condition (view (now (t .entry))) (cells acts) (now (vars .entry)) k ⌝ }
 {
-    let at = chart::transition_at(t, k);
-    let mut i = words::number(t, at + chart::ASKS);
-    let mut left = words::number(t, at + chart::ASKS + 1);
+    let mut i = chart::transition_word(t, k, chart::ASKS);
+    let mut left = chart::transition_word(t, k, chart::ASKS + 1);
     while 0 < left {
         if !does_hold(chart::literal_at(t, i), acts, vars) {
             return false;
@@ -112,14 +123,13 @@ fn meets_condition(t: &[u16], acts: StateSet, vars: &[u16], k: usize) -> bool
 
 // Whether transition k is enabled.
 fn is_enabled(t: &[u16], e: usize, acts: StateSet, vars: &[u16], k: usize) -> bool
-    requires { ⌜ k < 48 ⌝ }
+    requires { ⌜ ChartRules (now t) × (k < view (now t) .transitions) ⌝ }
     ensures { λ r. ⌜ r ≡ enabled (view (now (t .entry))) e (cells acts) (now (vars .entry)) k ⌝ }
 {
-    let at = chart::transition_at(t, k);
-    if words::number(t, at + chart::TRIGGER) != e {
+    if chart::transition_word(t, k, chart::TRIGGER) != e {
         return false;
     }
-    if !states::has(acts, words::number(t, at + chart::SOURCE)) {
+    if !states::has_in(acts, chart::transition_word(t, k, chart::SOURCE)) {
         return false;
     }
     meets_condition(t, acts, vars, k)
@@ -130,10 +140,14 @@ fn is_free(t: &[u16], k: usize, taken: StateSet) -> bool
     requires { ⌜ ChartRules (now t) × (k < view (now t) .transitions) ⌝ }
     ensures { λ r. ⌜ r ≡ allBelow (λ s. not (getD (cells taken) s false && related (view (now (t .entry))) s k)) k ⌝ }
 {
+    if !is_scoped(t, k) {
+        return true;
+    }
+    let top = scope_of(t, k);
     let mut s = 0;
     while s < k {
-        if states::has(taken, s) {
-            if are_related(t, s, k) {
+        if states::has_in(taken, s) {
+            if is_related(t, s, top) {
                 return false;
             }
         }
@@ -158,11 +172,11 @@ pub fn taken_set(t: &[u16], e: usize, acts: StateSet, vars: &[u16]) -> StateSet
     requires { ⌜ ChartRules (now t) ⌝ }
     ensures { λ r. ⌜ ((k : ℕ) → getD (cells r) k false ≡ getD (takens (view (now (t .entry))) e (cells acts) (now (vars .entry))) k false) ⌝ }
 {
-    let n = words::number(t, chart::TRANSITIONS);
+    let n = chart::head(t, chart::TRANSITIONS);
     let mut taken = states::none();
     let mut k = 0;
     while k < n {
-        taken = states::with(taken, k, is_taken_at(t, e, acts, vars, k, taken));
+        taken = states::grown(taken, k, is_taken_at(t, e, acts, vars, k, taken));
         k += 1;
     }
     taken

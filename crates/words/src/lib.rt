@@ -3,7 +3,7 @@
 ghost use mathlib.Core.Path.{_≡_};
 ghost use mathlib.Core.Bool.{_&&_};
 ghost use Prim.Native.Nat.{_<_};
-ghost use lib.ListN.{getD, set};
+ghost use lib.ListN.{length, getD, set};
 ghost use lib.Signed.{ltZ};
 ghost use mir.Syntax.{w16};
 ghost use mir.Val.{SFits, toZ, ofZ};
@@ -20,6 +20,14 @@ pub fn word(t: &[u16], i: usize) -> u16
     0
 }
 
+// Word i of t, which has it: nothing is tested.
+pub fn word_in(t: &[u16], i: usize) -> u16
+    requires { ⌜ i < length (now t) ⌝ }
+    ensures { λ r. ⌜ r ≡ getD (now (t .entry)) i 0 ⌝ }
+{
+    t[i]
+}
+
 // A word as an index or a count.
 pub fn wide(x: u16) -> usize
     ensures is { λ r. ⌜ r ≡ x ⌝ }
@@ -34,6 +42,15 @@ pub fn number(t: &[u16], i: usize) -> usize
     ensures small { λ r. ⌜ r < 65536 ⌝ }
 {
     wide(word(t, i))
+}
+
+// Word i of t, which has it, as an index or a count.
+pub fn number_in(t: &[u16], i: usize) -> usize
+    requires { ⌜ i < length (now t) ⌝ }
+    ensures is { λ r. ⌜ r ≡ getD (now (t .entry)) i 0 ⌝ }
+    ensures small { λ r. ⌜ r < 65536 ⌝ }
+{
+    wide(word_in(t, i))
 }
 
 // Word i of t becomes v; past its end nothing changes.

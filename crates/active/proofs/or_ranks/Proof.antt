@@ -8,6 +8,7 @@ use lib.ListN.{length, length-set}
 use Rattle.words.specs.Loops.{rank}
 use Rattle.words.proofs.Loops.{rank-most, rank-next}
 use Rattle.chart.specs.View.{view}
+use Rattle.chart_rules.proofs.Readable.{chart-readable, chart-needs}
 use Rattle.meaning.specs.Active.{isOr}
 use Rattle.meaning.specs.State.{orStates}
 use Rattle.meaning.proofs.Tree.{tree}
@@ -30,16 +31,16 @@ rank-after-requires : tie.Need-rank-after-requires Inv-loop μ-loop
 rank-after-requires c κs =
     let start = c .before .before .before .before .before .before .before .before .before in
     let l = c .before .before .before .before .before .loop in
-    let n = c .before .before .before .before .before .before .number .ensures .0 in
+    let n = c .before .before .before .before .before .before .head .ensures .0 in
     let few = start .pre .0 .counts .states .1 in
-    (omega arith, omega (arith, rank-most (isOr (view (now (start .args .t)))) (l .k)))
+    (chart-readable (start .pre .0), omega arith, omega (arith, rank-most (isOr (view (now (start .args .t)))) (l .k)))
 
 loop-again : tie.Need-loop-again Inv-loop μ-loop
 loop-again c =
     let start = c .before .before .before .before .before .before .before .before .before .before in
     let l = c .before .before .before .before .before .before .loop in
     let v = view (now (start .args .t)) in
-    let n = c .before .before .before .before .before .before .before .number .ensures .0 in
+    let n = c .before .before .before .before .before .before .before .head .ensures .0 in
     let few = start .pre .0 .counts .states .1 in
     let put = c .before .before .before .put .ensures in (
       omega arith,
@@ -54,7 +55,7 @@ returns c =
     let start = c .before .before .before .before .before .before in
     let l = c .before .before .loop in
     let v = view (now (start .args .t)) in
-    let n = c .before .before .before .number .ensures .0 in
+    let n = c .before .before .before .head .ensures .0 in
     let e : l .k ≡ v .states = omega arith in
     let few = start .pre .0 .counts .states .1 in
     let half = ors-half (tree (start .pre .0)) in
@@ -65,5 +66,5 @@ pub or-ranks-spec : {M : Type 1} → statement M
 or-ranks-spec =
     tie.close
     (tie.spec
-    Inv-loop μ-loop (λ c κs. search needs) loop-holds (λ c κs. search needs) rank-after-requires (λ c. omega arith)
+    Inv-loop μ-loop (λ c κs. search chart-needs) loop-holds (λ c κs. search needs) rank-after-requires (λ c. omega arith)
     (λ c. omega arith) loop-again (λ c κs. search needs) (λ c. search needs) returns)

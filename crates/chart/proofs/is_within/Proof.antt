@@ -19,10 +19,10 @@ abbrev μ-loop : tie.MeasureT-loop
 returns : tie.Need-returns Inv-loop μ-loop
 returns c =
     let s = c .before .before .before .args in
-    sym (within-out (view (now (s .t))) (s .a) (s .j) (omega (arith, c .before .number .ensures .0)))
+    sym (within-out (view (now (s .t))) (s .a) (s .j) (omega (arith, c .before .head .ensures .0)))
 
 loop-holds : tie.Need-loop-holds Inv-loop μ-loop
-loop-holds c = (omega (arith, c .before .number .ensures .0), refl)
+loop-holds c = (omega (arith, c .before .head .ensures .0), refl)
 
 returns-2 : tie.Need-returns-2 Inv-loop μ-loop
 returns-2 c =

@@ -21,17 +21,17 @@ abbrev μ-loop : tie.MeasureT-loop
 returns : tie.Need-returns Inv-loop μ-loop
 returns c =
     let s = c .before .before .before .args in
-    (sym (meets-none (view (now (s .t))) (s .a) (s .b) (omega (arith, c .before .number .ensures .0))), search needs)
+    (sym (meets-none (view (now (s .t))) (s .a) (s .b) (omega (arith, c .before .head .ensures .0))), search needs)
 
 returns-2 : tie.Need-returns-2 Inv-loop μ-loop
 returns-2 c =
     let s = c .before .before .before .before .args in
     let v = view (now (s .t)) in
-    (sym (meeting-swap v (s .a) (s .b) ∙ meets-none v (s .b) (s .a) (omega (arith, c .before .before .number .ensures .0))), search needs)
+    (sym (meeting-swap v (s .a) (s .b) ∙ meets-none v (s .b) (s .a) (omega (arith, c .before .before .head .ensures .0))), search needs)
 
 loop-holds : tie.Need-loop-holds Inv-loop μ-loop
 loop-holds c =
-    let n = c .before .before .number .ensures .0 in
+    let n = c .before .before .head .ensures .0 in
     (omega arith, omega arith, refl)
 
 -- the larger one is y: it has no smaller parent, or its parent takes its place
@@ -73,7 +73,7 @@ returns-5 c =
     let l = c .before .loop in
     let v = view (now (c .before .before .before .before .before .before .args .t)) in
     let e : l .x ≡ l .y = c .loop-test .left in
-    let n = c .before .before .before .before .number .ensures in
+    let n = c .before .before .before .before .head .ensures in
     (sym (l .inv .2 ∙ ap (meeting v (l .x)) (sym e) ∙ meets-itself v (l .x) (l .inv .0)), omega (arith, l .inv .0, n .0, n .1))
 
 pub meeting-of-spec : {M : Type 1} → statement M

@@ -2,13 +2,13 @@
 use borrow.Author.Needs.{needs}
 use Prim.Native.Nat.{ℕ, zero, suc, _+_, _-_, _<_, _≤_}
 use mathlib.Core.Path.{_≡_, refl, sym, ap, ap₂, _∙_}
-use mathlib.Core.List.{List, [], _∷_}
+use mathlib.Core.List.{List}
 use native.Mathlib.Nat.{not-suc-le-zero}
 use native.Mathlib.Omega.{arith}
 use denote.Ref.{now}
 use lib.ListN.{drop}
-use Rattle.table.specs.Check.{ruleAt, lowestBad, answer}
-use Rattle.table.proofs.Check.{broken-here, kept-here}
+use Rattle.table.specs.Check.{ruleAt, lowestBad, answer, KeptBefore}
+use Rattle.table.proofs.Check.{broken-here, kept-here, kept-next}
 use Rattle.chart_check.specs.Answer.{chartRules, chartAnswer}
 use Rattle.chart_check.proofs.check.Statement.{statement}
 use Rattle.chart_check.proofs.check.Tie as tie
@@ -21,17 +21,17 @@ one-place t (suc (suc zero)) h = refl
 one-place t (suc (suc (suc k))) h = absurd (omega arith)
 
 abbrev Inv-loop : tie.InvT-loop
-Inv-loop t k₀ k = (k ≤ 9) × (chartAnswer t ≡ answer (1 + k) (drop k (chartRules t)))
+Inv-loop t k₀ k = (k ≤ 9) × (chartAnswer t ≡ answer (1 + k) (drop k (chartRules t))) × KeptBefore (chartRules t) k
 
 abbrev μ-loop : tie.MeasureT-loop
 μ-loop t k₀ k = 9 - k
 
 loop-holds : tie.Need-loop-holds Inv-loop μ-loop
 unfolding chartAnswer
-loop-holds c = (omega arith, refl)
+loop-holds c = (omega arith, refl, λ j h. absurd (not-suc-le-zero h))
 
 lowest-bad-requires : tie.Need-lowest-bad-requires Inv-loop μ-loop
-lowest-bad-requires c κs = (c .before .loop-test .taken, search needs, c .places-of .ensures .0)
+lowest-bad-requires c κs = (c .before .loop-test .taken, search needs, c .places-of .ensures .0, c .before .before .loop .inv .2)
 
 chart-refusal-requires : tie.Need-chart-refusal-requires Inv-loop μ-loop
 chart-refusal-requires c κs =
@@ -56,7 +56,12 @@ loop-again c =
     let l = c .before .before .before .before .loop in
     let p = c .before .lowest-bad .ensures .0 in
     let n = c .before .before .places-of .ensures .0 in
-    (omega arith, l .inv .1 ∙ kept-here 1 (chartRules t) (l .k) (c .before .before .before .loop-test .taken) (omega (arith, p, n)))
+    let a-rule = c .before .before .before .loop-test .taken in
+    let none : ruleAt (chartRules t) (l .k) .places ≤ lowestBad (ruleAt (chartRules t) (l .k)) = omega (arith, p, n) in (
+      omega arith,
+      l .inv .1 ∙ kept-here 1 (chartRules t) (l .k) a-rule none,
+      kept-next (chartRules t) (l .k) (l .inv .2) none,
+    )
 
 returns-2 : tie.Need-returns-2 Inv-loop μ-loop
 unfolding answer

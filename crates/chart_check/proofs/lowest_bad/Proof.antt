@@ -1,8 +1,8 @@
 -- `chart_check::lowest_bad` meets its contract: what is to be found is to be found among the places left. Assumes nothing.
 use borrow.Author.Needs.{needs}
 use borrow.Author.Tests.{not-true, not-false}
-use Prim.Native.Nat.{ℕ, _-_, _≤_}
-use mathlib.Core.Path.{_≡_, refl, sym, ap, _∙_}
+use Prim.Native.Nat.{_-_, _≤_}
+use mathlib.Core.Path.{_≡_, sym, ap, _∙_}
 use native.Mathlib.Omega.{arith}
 use denote.Ref.{now}
 use Rattle.words.specs.Loops.{firstBad}
@@ -26,12 +26,18 @@ loop-holds c =
     let ok = ruleAt (chartRules (now (s .t))) (s .k) .keeps in
     (omega arith, ap (firstBad ok 0) (sym (c .before .pre .2)) ∙ start ok (s .places))
 
+keeps-requires : tie.Need-keeps-requires Inv-loop μ-loop
+keeps-requires c κs =
+    let p = c .before .before .before .pre in
+    (p .0, omega (arith, p .2, c .loop-test .taken), p .3)
+
 returns : tie.Need-returns Inv-loop μ-loop
 returns c =
     let s = c .before .before .before .before .before .args in
     let l = c .before .before .before .loop in
     let ok = ruleAt (chartRules (now (s .t))) (s .k) .keeps in (
-      sym (l .inv .1 ∙ bad ok (l .i) (s .places) (c .before .before .loop-test .taken) (sym (c .before .keeps .ensures) ∙ not-true (c .before .keeps .result) (c .if1 .taken))),
+      sym (l .inv .1 ∙ bad ok (l .i) (s .places) (c .before .before .loop-test .taken)
+          (sym (c .before .keeps .ensures) ∙ not-true (c .before .keeps .result) (c .if1 .taken))),
       l .inv .0,
     )
 
@@ -41,7 +47,8 @@ loop-again c =
     let l = c .before .before .before .loop in
     let ok = ruleAt (chartRules (now (s .t))) (s .k) .keeps in (
       omega arith,
-      l .inv .1 ∙ good ok (l .i) (s .places) (c .before .before .loop-test .taken) (sym (c .before .keeps .ensures) ∙ not-false (c .before .keeps .result) (c .if1 .left)),
+      l .inv .1 ∙ good ok (l .i) (s .places) (c .before .before .loop-test .taken)
+          (sym (c .before .keeps .ensures) ∙ not-false (c .before .keeps .result) (c .if1 .left)),
     )
 
 returns-2 : tie.Need-returns-2 Inv-loop μ-loop
@@ -56,5 +63,5 @@ pub lowest-bad-spec : {M : Type 1} → statement M
 lowest-bad-spec =
     tie.close
     (tie.spec
-    Inv-loop μ-loop loop-holds (λ c κs. search needs) returns (λ c. search needs) (λ c. search needs)
+    Inv-loop μ-loop loop-holds keeps-requires returns (λ c. search needs) (λ c. search needs)
     loop-again returns-2)

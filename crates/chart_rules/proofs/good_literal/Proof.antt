@@ -12,7 +12,7 @@ returns : tie.Need-returns
 unfolding goodLiteral?
 returns c =
     let s = c .before .before .before .before .before .before .before .before .args in
-    let kind = c .before .before .before .before .before .number2 .result in
+    let kind = c .before .before .before .before .before .number-in .result in
     let k : kind ≡ view (now (s .t)) .literal (s .i) .kind = cc in
     rw (← k, ltb-yes kind 2 (c .before .before .before .if1 .taken)) cc
 
@@ -20,7 +20,7 @@ returns-2 : tie.Need-returns-2
 unfolding goodLiteral?
 returns-2 c =
     let s = c .before .before .before .before .before .before .before .args in
-    let kind = c .before .before .before .before .number2 .result in
+    let kind = c .before .before .before .before .number-in .result in
     let k : kind ≡ view (now (s .t)) .literal (s .i) .kind = cc in
     rw (← k, ltb-no kind 2 (c .before .before .if1 .left)) cc
 
@@ -28,6 +28,6 @@ pub good-literal-spec : {M : Type 1} → statement M
 good-literal-spec =
     tie.close
     (tie.spec
-    (λ c κs. search needs) (λ c. search needs) (λ c. search needs) (λ c κs. search needs) (λ c. search needs)
-    (λ c κs. search needs) (λ c κs. search needs) (λ c. search needs) (λ c κs. search needs)
-    (λ c κs. search needs) returns (λ c κs. search needs) (λ c κs. search needs) returns-2)
+    (λ c κs. search needs) (λ c κs. search needs) (λ c. search needs) (λ c κs. search needs) (λ c κs. search needs)
+    (λ c. search needs) (λ c κs. search needs) (λ c κs. search needs) returns (λ c κs. search needs)
+    (λ c κs. search needs) returns-2)

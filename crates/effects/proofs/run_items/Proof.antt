@@ -1,5 +1,5 @@
 -- `effects::run_items` meets its contract: each turn is one `step` of `doItems`. Assumes nothing.
-use Prim.Native.Nat.{_+_, _*_, _<_}
+use Prim.Native.Nat.{_+_, _*_, _≤_}
 use mathlib.Core.Path.{_≡_, sym, _∙_}
 use native.Mathlib.Omega.{arith}
 use borrow.Author.Needs.{needs}
@@ -11,7 +11,7 @@ use Rattle.effects.proofs.run_items.Tie as tie
 
 abbrev Inv-loop : tie.InvT-loop
 Inv-loop t first count room vars₀ outs₀ queue₀ m₀ at₀ left₀ vars outs queue m at left =
-    (at + 3 * left < 10000000)
+    (at + 3 * left ≤ length t)
     × (length vars ≡ length vars₀)
     × (length outs ≡ length outs₀)
     × (length queue ≡ length queue₀)

@@ -8,7 +8,7 @@ use Rattle.effects.proofs.run_span.Tie as tie
 returns : tie.Need-returns
 returns c =
     let s = c .before .before .before .before .before .before .before .before .before .before .before .before .before .before .before .before .before .args in
-    rw (← span-items (now (s .t)) (s .base) (s .at) _ _ _ (c .before .before .before .before .before .before .before .before .before .before .before .before .number .ensures .0) (c .before .before .before .before .before .before .before .before .before .before .before .number2 .ensures .0) (c .before .before .before .before .before .before .before .before .before .before .number3 .ensures .0))
+    rw (← span-items (now (s .t)) (s .base) (s .at) _ _ _ (c .before .before .before .before .before .before .before .before .before .before .before .before .number-in .ensures .0) (c .before .before .before .before .before .before .before .before .before .before .before .number-in2 .ensures .0) (c .before .before .before .before .before .before .before .before .before .before .number-in3 .ensures .0))
     (c .before .before .before .before .before .before .run-items .ensures)
 
 pub run-span-spec : {M : Type 1} → statement M

@@ -41,7 +41,7 @@ returns-2 c =
     let good = c .before .before .before .before .is-state in
     no-event (view (now (s .t))) (now (s .state)) (s .event) (now (s .outputs))
     (sym (good .ensures) ∙ not-false (good .result) (c .before .before .before .if1 .left))
-    (omega (arith, c .if2 .taken, c .before .before .number .ensures .0, c .before .wide .ensures .0))
+    (omega (arith, c .if2 .taken, c .before .before .head .ensures .0, c .before .wide .ensures .0))
 
 add-end : tie.Need-add-end
 add-end c = omega (arith, c .before .before .before .before .before .before .before .before .or-ranks .ensures .1 .0)
@@ -77,7 +77,7 @@ returns-3 c =
     c .before .before .before .before .before .run-state .ensures
     ∙ sym (good-call (view (now (s .t))) (now (s .state)) (s .event) (now (s .outputs))
     (sym (good .ensures) ∙ not-false (good .result) (c .before .before .before .before .before .before .before .before .before .before .before .before .if1 .left))
-    (omega (arith, c .before .before .before .before .before .before .before .before .before .if2 .left, c .before .before .before .before .before .before .before .before .before .before .wide .ensures .0, c .before .before .before .before .before .before .before .before .before .before .before .number .ensures .0)))
+    (omega (arith, c .before .before .before .before .before .before .before .before .before .if2 .left, c .before .before .before .before .before .before .before .before .before .before .wide .ensures .0, c .before .before .before .before .before .before .before .before .before .before .before .head .ensures .0)))
 
 pub run-accepted-spec : {M : Type 1} → statement M
 run-accepted-spec =

@@ -39,7 +39,7 @@ returns c =
     let s = ranks .before .before .before .before .args in
     let v = view (now (s .t)) in
     let other : length (now (s .state)) ≢ orStates v + v .variables =
-    λ e. c .if1 .taken (omega (arith, ranks .or-ranks .ensures .0, c .before .number .ensures .0)) in
+    λ e. c .if1 .taken (omega (arith, ranks .or-ranks .ensures .0, c .before .head .ensures .0)) in
     rw (eqb-no other) refl
 
 returns-2 : tie.Need-returns-2
@@ -51,7 +51,7 @@ returns-2 c =
     let s = ranks .before .before .before .before .args in
     let v = view (now (s .t)) in
     let is = ranks .or-ranks .ensures .0 in
-    let n = if1 .before .number .ensures .0 in
+    let n = if1 .before .head .ensures .0 in
     let long : length (now (s .state)) ≡ orStates v + v .variables = omega (arith, is, n) in
     rw (eqb-yes long)
     (ap (startTold Done)

@@ -8,8 +8,9 @@ use denote.Ref.{now}
 use lib.ListN.{getD}
 use Rattle.words.specs.Loops.{tab}
 use Rattle.chart.specs.View.{view}
+use Rattle.chart_rules.proofs.Readable.{chart-needs}
 use Rattle.states.specs.Cells.{cells}
-use Rattle.states.proofs.Cells.{Growing, growing-none, growing-next}
+use Rattle.states.proofs.Cells.{Growing, growing-none, growing-next, not-yet}
 use Rattle.meaning.specs.Entered.{enteredAt, entereds}
 use Rattle.entered.proofs.Entered.{same-entered}
 use Rattle.entered.proofs.entered_set.Statement.{statement}
@@ -30,7 +31,16 @@ loop-holds c =
 is-entered-at-requires : tie.Need-is-entered-at-requires Inv-loop μ-loop
 is-entered-at-requires c κs =
     let pre = c .before .before .before .before .before .before .before .pre in
-    (pre .0, pre .1, omega (arith, c .before .before .before .number .ensures .0), pre .2, pre .3)
+    (pre .0, pre .1, omega (arith, c .before .before .before .head .ensures .0), pre .2, pre .3)
+
+grown-requires : tie.Need-grown-requires Inv-loop μ-loop
+grown-requires c κs =
+    let start = c .before .before .before .before .before .before .before .before in
+    let s = start .args in
+    let l = c .before .before .loop in
+    let few = start .pre .0 .counts .states .1 in
+    let g = enteredAt (view (now (s .t))) (now (s .current)) (s .k) in
+    (omega (arith, c .before .before .before .before .head .ensures .0), not-yet g (l .j) (cells (l .entered)) (l .inv .1 .made))
 
 loop-again : tie.Need-loop-again Inv-loop μ-loop
 loop-again c =
@@ -43,22 +53,22 @@ loop-again c =
     let set = cells (l .entered) in
     let grown = l .inv .1 in
     let same = same-entered v words k (l .j) set (tab g (l .j)) (grown .made (v .parent (v .parent (l .j)))) in
-    let n = c .before .before .before .before .before .number .ensures .0 in
+    let n = c .before .before .before .before .before .head .ensures .0 in
     let few = start .pre .0 .counts .states .1 in
     let told = c .before .is-entered-at .ensures in
-    (omega arith, growing-next g (l .j) set (omega arith) told same (c .with .ensures) grown)
+    (omega arith, growing-next g (l .j) set (omega arith) told same (c .grown .ensures) grown)
 
 returns : tie.Need-returns Inv-loop μ-loop
 unfolding entereds
 returns c =
     let s = c .before .before .before .before .before .before .before .args in
     let v = view (now (s .t)) in
-    let e : c .before .loop .j ≡ v .states = omega (arith, c .before .before .before .number .ensures .0) in
+    let e : c .before .loop .j ≡ v .states = omega (arith, c .before .before .before .head .ensures .0) in
     λ j. c .before .loop .inv .1 .made j ∙ ap (λ (n : ℕ). getD (tab (enteredAt v (now (s .current)) (s .k)) n) j false) e
 
 pub entered-set-spec : {M : Type 1} → statement M
 entered-set-spec =
     tie.close
     (tie.spec
-    Inv-loop μ-loop (λ c κs. search needs) (λ c κs. search needs) loop-holds is-entered-at-requires
-    (λ c κs. search needs) (λ c. omega arith) (λ c. omega arith) loop-again returns)
+    Inv-loop μ-loop (λ c κs. search chart-needs) (λ c κs. search needs) loop-holds is-entered-at-requires
+    grown-requires (λ c. omega arith) (λ c. omega arith) loop-again returns)

@@ -1,9 +1,9 @@
 -- `entered::is_chosen` meets its contract: each branch is one of `chosen`. Assumes nothing.
-use borrow.Author.Needs.{needs}
 use mathlib.Core.Path.{_≡_}
 use mathlib.Core.Bool.{true, false}
 use denote.Ref.{now}
 use Rattle.chart.specs.View.{view}
+use Rattle.chart_rules.proofs.Readable.{chart-needs}
 use Rattle.meaning.specs.Entered.{keepsWord, entersLatest, aimed, chosen}
 use Rattle.entered.proofs.is_chosen.Statement.{statement}
 use Rattle.entered.proofs.is_chosen.Tie as tie
@@ -40,5 +40,5 @@ pub is-chosen-spec : {M : Type 1} → statement M
 is-chosen-spec =
     tie.close
     (tie.spec
-    (λ c κs. search needs) (λ c κs. search needs) (λ c κs. search needs) returns (λ c κs. search needs)
-    (λ c κs. search needs) returns-2 (λ c κs. search needs) returns-3)
+    (λ c κs. search chart-needs) (λ c κs. search chart-needs) (λ c κs. search chart-needs) returns (λ c κs. search chart-needs)
+    (λ c κs. search chart-needs) returns-2 (λ c κs. search chart-needs) returns-3)

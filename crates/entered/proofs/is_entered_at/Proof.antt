@@ -1,12 +1,12 @@
 -- `entered::is_entered_at` meets its contract: each branch is one of `enteredAt`; an and-state's parent has a smaller
 -- number, so it is a state. Assumes nothing.
-use borrow.Author.Needs.{needs}
 use borrow.Author.Tests.{not-true, not-false}
 use mathlib.Core.Path.{_≡_, sym, _∙_}
 use mathlib.Core.Bool.{true, false}
 use native.Mathlib.Omega.{arith}
 use denote.Ref.{now}
 use Rattle.chart.specs.View.{view}
+use Rattle.chart_rules.proofs.Readable.{chart-needs}
 use Rattle.states.specs.Cells.{cells}
 use Rattle.meaning.specs.Scope.{scope}
 use Rattle.meaning.specs.Entered.{reached, enteredAt}
@@ -17,6 +17,15 @@ use Rattle.entered.proofs.is_entered_at.Tie as tie
 returns : tie.Need-returns
 unfolding enteredAt
 returns c = rw (sym (c .before .is-and .ensures) ∙ not-true (c .before .is-and .result) (c .if1 .taken)) cc
+
+is-reached-requires : tie.Need-is-reached-requires
+is-reached-requires c κs =
+    let start = c .before .before .before .before .before in
+    let j = start .args .j in
+    let is-and = c .before .is-and in
+    let and = sym (is-and .ensures) ∙ not-false (is-and .result) (c .if1 .left) in
+    let smaller = and-parent (view (now (start .args .t))) j (start .pre .0 .places j (start .pre .2)) and in
+    (start .pre .0, start .pre .2, omega (arith, start .pre .2))
 
 returns-2 : tie.Need-returns-2
 unfolding enteredAt
@@ -35,8 +44,7 @@ is-chosen-requires c κs =
     let is-and = c .before .before .before .is-and in
     let and = sym (is-and .ensures) ∙ not-false (is-and .result) (c .before .before .if1 .left) in
     let smaller = and-parent (view (now (start .args .t))) j (start .pre .0 .places j (start .pre .2)) and in
-    let few = start .pre .0 .counts .states .1 in
-    (start .pre .1, omega (arith, start .pre .2), start .pre .3, omega (arith, start .pre .2))
+    (start .pre .0, start .pre .1, start .pre .2, start .pre .3, omega (arith, start .pre .2))
 
 returns-3 : tie.Need-returns-3
 unfolding enteredAt
@@ -52,4 +60,4 @@ pub is-entered-at-spec : {M : Type 1} → statement M
 is-entered-at-spec =
     tie.close
     (tie.spec
-    (λ c κs. search needs) returns (λ c κs. search needs) returns-2 is-chosen-requires returns-3)
+    (λ c κs. search chart-needs) returns is-reached-requires returns-2 is-chosen-requires returns-3)

@@ -1,11 +1,20 @@
--- `flat::is_state_of` meets its contract: what it returns is what its callees say. Assumes nothing.
+-- `flat::is_state_of` meets its contract: what it returns is what its callees say, by the test of the number. Assumes nothing.
 use borrow.Author.Needs.{needs}
+use Rattle.words.proofs.Tests.{ltb-yes, ltb-no}
 use Rattle.flat.proofs.is_state_of.Statement.{statement}
 use Rattle.flat.proofs.is_state_of.Tie as tie
 
 returns : tie.Need-returns
-returns c = cc
+returns c =
+    let n = c .before .before .head in
+    let j = c .before .before .before .before .args .j in
+    rw (← n .ensures .0, ltb-yes j (n .result) (c .before .if1 .taken)) cc
+
+returns-2 : tie.Need-returns-2
+returns-2 c =
+    let n = c .before .head in
+    rw (← n .ensures .0, ltb-no (c .before .before .before .args .j) (n .result) (c .if1 .left))
 
 pub is-state-of-spec : {M : Type 1} → statement M
 is-state-of-spec = tie.close (tie.spec
-    (λ c κs. search needs) (λ c κs. search needs) (λ c κs. search needs) returns)
+    (λ c κs. search needs) (λ c κs. search needs) returns returns-2)

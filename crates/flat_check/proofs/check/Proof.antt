@@ -3,11 +3,12 @@ use borrow.Author.Needs.{needs}
 use Prim.Native.Nat.{ℕ, zero, suc, _+_, _-_, _<_, _≤_}
 use mathlib.Core.Path.{_≡_, refl, sym, ap, ap₂, _∙_}
 use mathlib.Core.List.{List}
+use native.Mathlib.Nat.{not-suc-le-zero}
 use native.Mathlib.Omega.{arith}
 use denote.Ref.{now}
 use lib.ListN.{drop}
-use Rattle.table.specs.Check.{ruleAt, answer}
-use Rattle.table.proofs.Check.{broken-here, kept-here}
+use Rattle.table.specs.Check.{ruleAt, lowestBad, answer, KeptBefore}
+use Rattle.table.proofs.Check.{broken-here, kept-here, kept-next}
 use Rattle.flat_check.specs.Answer.{flatRules, flatAnswer}
 use Rattle.flat_check.proofs.check.Statement.{statement}
 use Rattle.flat_check.proofs.check.Tie as tie
@@ -20,17 +21,17 @@ one-place t (suc (suc zero)) h = refl
 one-place t (suc (suc (suc k))) h = absurd (omega arith)
 
 abbrev Inv-loop : tie.InvT-loop
-Inv-loop t k₀ k = (k ≤ 8) × (flatAnswer t ≡ answer (11 + k) (drop k (flatRules t)))
+Inv-loop t k₀ k = (k ≤ 8) × (flatAnswer t ≡ answer (11 + k) (drop k (flatRules t))) × KeptBefore (flatRules t) k
 
 abbrev μ-loop : tie.MeasureT-loop
 μ-loop t k₀ k = 8 - k
 
 loop-holds : tie.Need-loop-holds Inv-loop μ-loop
 unfolding flatAnswer
-loop-holds c = (omega arith, refl)
+loop-holds c = (omega arith, refl, λ j h. absurd (not-suc-le-zero h))
 
 lowest-bad-requires : tie.Need-lowest-bad-requires Inv-loop μ-loop
-lowest-bad-requires c κs = (c .before .loop-test .taken, search needs, c .places-of .ensures .0)
+lowest-bad-requires c κs = (c .before .loop-test .taken, search needs, c .places-of .ensures .0, c .before .before .loop .inv .2)
 
 flat-refusal-requires : tie.Need-flat-refusal-requires Inv-loop μ-loop
 flat-refusal-requires c κs =
@@ -58,7 +59,11 @@ loop-again c =
     let p = c .before .lowest-bad .ensures .0 in
     let n = c .before .before .places-of .ensures .0 in
     let a-rule = c .before .before .before .loop-test .taken in
-    (omega arith, l .inv .1 ∙ kept-here 11 (flatRules t) (l .k) a-rule (omega (arith, p, n)))
+    let none : ruleAt (flatRules t) (l .k) .places ≤ lowestBad (ruleAt (flatRules t) (l .k)) = omega (arith, p, n) in (
+      omega arith,
+      l .inv .1 ∙ kept-here 11 (flatRules t) (l .k) a-rule none,
+      kept-next (flatRules t) (l .k) (l .inv .2) none,
+    )
 
 returns-2 : tie.Need-returns-2 Inv-loop μ-loop
 unfolding answer

@@ -26,6 +26,11 @@ loop-holds c =
     let ok = ruleAt (flatRules (now (s .t))) (s .k) .keeps in
     (omega arith, ap (firstBad ok 0) (sym (c .before .pre .2)) ∙ start ok (s .places))
 
+keeps-requires : tie.Need-keeps-requires Inv-loop μ-loop
+keeps-requires c κs =
+    let p = c .before .before .before .pre in
+    (p .0, omega (arith, p .2, c .loop-test .taken), p .3)
+
 returns : tie.Need-returns Inv-loop μ-loop
 returns c =
     let s = c .before .before .before .before .before .args in
@@ -54,5 +59,5 @@ pub lowest-bad-spec : {M : Type 1} → statement M
 lowest-bad-spec =
     tie.close
     (tie.spec
-    Inv-loop μ-loop loop-holds (λ c κs. search needs) returns (λ c. search needs) (λ c. search needs)
+    Inv-loop μ-loop loop-holds keeps-requires returns (λ c. search needs) (λ c. search needs)
     loop-again returns-2)

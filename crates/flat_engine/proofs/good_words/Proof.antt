@@ -9,6 +9,7 @@ use denote.Ref.{now}
 use Rattle.words.specs.Loops.{allBelow}
 use Rattle.words.proofs.Loops.{allBelow-next, allBelow-no}
 use Rattle.flat.specs.View.{flatView, stateOf?}
+use Rattle.flat_rules.proofs.Readable.{flat-needs}
 use Rattle.flat_meaning.specs.State.{goodFlatWord?}
 use Rattle.flat_engine.proofs.good_words.Statement.{statement}
 use Rattle.flat_engine.proofs.good_words.Tie as tie
@@ -29,7 +30,7 @@ returns c =
     let f = flatView (now (s .t)) in
     let m = c .before .before .before .before .loop .m in
     let is = c .before .is-state-of in
-    let read = ap (stateOf? f m) (c .before .before .number2 .ensures .0) in
+    let read = ap (stateOf? f m) (c .before .before .number .ensures .0) in
     let bad = sym (is .ensures ∙ read) ∙ not-true (is .result) (c .if1 .taken) in
     sym (allBelow-no (goodFlatWord? f (now (s .current))) (f .machines) m (omega arith) bad)
 
@@ -40,7 +41,7 @@ loop-again c =
     let f = flatView (now (s .t)) in
     let l = c .before .before .before .before .loop in
     let is = c .before .is-state-of in
-    let read = ap (stateOf? f (l .m)) (c .before .before .number2 .ensures .0) in
+    let read = ap (stateOf? f (l .m)) (c .before .before .number .ensures .0) in
     let good = sym (is .ensures ∙ read) ∙ not-false (is .result) (c .if1 .left) in
     (omega arith, allBelow-next (goodFlatWord? f (now (s .current))) (l .m) (l .inv .1) good)
 
@@ -55,5 +56,5 @@ pub good-words-spec : {M : Type 1} → statement M
 good-words-spec =
     tie.close
     (tie.spec
-    Inv-loop μ-loop (λ c κs. search needs) loop-holds (λ c κs. search needs) (λ c κs. search needs) returns
+    Inv-loop μ-loop (λ c κs. search flat-needs) loop-holds (λ c κs. search needs) (λ c κs. search flat-needs) returns
     (λ c. search needs) (λ c. search needs) loop-again returns-2)

@@ -9,6 +9,7 @@ use lib.Seq.{length-take-le}
 use Rattle.words.specs.Loops.{allBelow}
 use Rattle.words.proofs.Tests.{eqb-yes, eqb-no}
 use Rattle.flat.specs.View.{flatView}
+use Rattle.flat_rules.proofs.Readable.{flat-needs}
 use Rattle.flat_meaning.specs.State.{flatLength, goodFlatWord?, flatStateOf?}
 use Rattle.flat_engine.proofs.is_state.Statement.{statement}
 use Rattle.flat_engine.proofs.is_state.Tie as tie
@@ -24,7 +25,7 @@ returns c =
 slice-aggregate-good-words : tie.Need-slice-aggregate-good-words
 slice-aggregate-good-words c =
     let s = c .before .before .before .before .before .before .args in
-    sym (length-take-le (c .before .before .before .number .result) (now (s .state)) (omega arith))
+    sym (length-take-le (c .before .before .before .head .result) (now (s .state)) (omega arith))
 
 returns-2 : tie.Need-returns-2
 unfolding flatStateOf? flatLength
@@ -35,11 +36,11 @@ returns-2 c =
     let long : length state ≡ f .machines + f .variables = omega arith in
     rw (eqb-yes long)
     (c .good-words .ensures
-    ∙ ap (λ (k : ℕ). allBelow (goodFlatWord? f (take k state)) (f .machines)) (c .before .before .before .before .number .ensures .0))
+    ∙ ap (λ (k : ℕ). allBelow (goodFlatWord? f (take k state)) (f .machines)) (c .before .before .before .before .head .ensures .0))
 
 pub is-state-spec : {M : Type 1} → statement M
 is-state-spec =
     tie.close
     (tie.spec
-    (λ c κs. search needs) (λ c κs. search needs) (λ c. search needs) returns slice-aggregate-good-words
+    (λ c κs. search flat-needs) (λ c κs. search flat-needs) (λ c. search needs) returns slice-aggregate-good-words
     (λ c κs. search needs) returns-2)

@@ -5,35 +5,35 @@ use mathlib.Core.Path.{_≡_}
 use native.Mathlib.Omega.{arith}
 use denote.Ref.{now}
 use Rattle.flat.specs.View.{flatView}
+use Rattle.flat_rules.proofs.Readable.{flat-needs}
 use Rattle.flat_meaning.specs.State.{flatStartWords}
 use Rattle.flat_engine.proofs.Laid.{Front, lay-start, lay-next, lay-end, front-length}
 use Rattle.flat_engine.proofs.lay_initials.Statement.{statement}
 use Rattle.flat_engine.proofs.lay_initials.Tie as tie
 
 abbrev Inv-loop : tie.InvT-loop
-Inv-loop t state₀ machines at m₀ state m = (m ≤ machines) × Front (flatView t .initial) state₀ m state
+Inv-loop t state₀ machines m₀ state m = (m ≤ machines) × Front (flatView t .initial) state₀ m state
 
 abbrev μ-loop : tie.MeasureT-loop
-μ-loop t state₀ machines at m₀ state m = machines - m
+μ-loop t state₀ machines m₀ state m = machines - m
 
 loop-holds : tie.Need-loop-holds Inv-loop μ-loop
-loop-holds c = let s = c .before .before .before .before .args in (omega arith, lay-start (flatView (now (s .t)) .initial) (now (s .state)))
+loop-holds c = let s = c .before .before .before .args in (omega arith, lay-start (flatView (now (s .t)) .initial) (now (s .state)))
 
 loop-again : tie.Need-loop-again Inv-loop μ-loop
 loop-again c =
-    let start = c .before .before .before .before .before .before .before .before .before .before .before in
+    let start = c .before .before .before .before .before .before .before .before .before .before in
     let s = start .args in
     let f = flatView (now (s .t)) in
-    let l = c .before .before .before .before .before .before .loop in
-    let word : c .before .before .before .word .result ≡ f .initial (l .m) = cc in (
+    let l = c .before .before .before .before .before .before .loop in (
       omega arith,
       lay-next (f .initial) (now (s .state)) (l .m) _ (l .state) _
-          (omega (arith, start .pre .1)) word (l .inv .1) (c .before .before .put .ensures),
+          (omega (arith, start .pre .1)) (c .before .before .before .initial-of .ensures .0) (l .inv .1) (c .before .before .put .ensures),
     )
 
 same-length : tie.Need-same-length Inv-loop μ-loop
 same-length c =
-    let start = c .before .before .before .before .before .before in
+    let start = c .before .before .before .before .before in
     let s = start .args in
     let l = c .before .loop in
     front-length (flatView (now (s .t)) .initial) (now (s .state)) (l .m) (l .state) (omega (arith, start .pre .1)) (l .inv .1)
@@ -41,7 +41,7 @@ same-length c =
 returns : tie.Need-returns Inv-loop μ-loop
 unfolding flatStartWords
 returns c =
-    let s = c .before .before .before .before .before .before .args in
+    let s = c .before .before .before .before .before .args in
     let f = flatView (now (s .t)) in
     let l = c .before .loop in
     let e : l .m ≡ f .machines = omega arith in
@@ -51,5 +51,5 @@ pub lay-initials-spec : {M : Type 1} → statement M
 lay-initials-spec =
     tie.close
     (tie.spec
-    Inv-loop μ-loop (λ c κs. search needs) (λ c κs. search needs) loop-holds (λ c. search needs)
-    (λ c κs. search needs) (λ c κs. search needs) (λ c. search needs) (λ c. search needs) loop-again same-length returns)
+    Inv-loop μ-loop (λ c κs. search flat-needs) loop-holds (λ c κs. search flat-needs) (λ c. search needs) (λ c κs. search needs)
+    (λ c. search needs) (λ c. search needs) loop-again same-length returns)

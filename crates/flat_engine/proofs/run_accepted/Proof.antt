@@ -9,6 +9,7 @@ use denote.Ref.{now}
 use lib.Seq.{length-take-le}
 use Rattle.effects.specs.Lent.{zeros}
 use Rattle.flat.specs.View.{flatView}
+use Rattle.flat_rules.proofs.Readable.{flat-needs}
 use Rattle.flat_meaning.proofs.State.{state-length}
 use Rattle.flat_engine.proofs.Answers.{no-state, no-event, good-call}
 use Rattle.flat_engine.proofs.run_accepted.Statement.{statement}
@@ -27,11 +28,11 @@ returns-2 c =
     let good = c .before .before .before .before .is-state in
     no-event (flatView (now (s .t))) (now (s .state)) (s .event) (now (s .outputs))
     (sym (good .ensures) ∙ not-false (good .result) (c .before .before .before .if1 .left))
-    (omega (arith, c .if2 .taken, c .before .before .number .ensures .0, c .before .wide .ensures .0))
+    (omega (arith, c .if2 .taken, c .before .before .head .ensures .0, c .before .wide .ensures .0))
 
 slice-aggregate-run-state : tie.Need-slice-aggregate-run-state
 slice-aggregate-run-state c =
-    let g = c .before .number2 in
+    let g = c .before .head2 in
     sym (length-take-le (g .result / 16 + 1) (zeros 147) (omega (arith, g .ensures .0, c .before .before .before .before .before .before .before .before .before .before .before .pre .counts .guards .1)))
 
 run-state-requires : tie.Need-run-state-requires
@@ -39,7 +40,7 @@ run-state-requires c κs =
     let s = c .before .before .before .before .before .before .before .before .before .before .before .before .before .args in
     let pre = c .before .before .before .before .before .before .before .before .before .before .before .before .before .pre in
     let good = c .before .before .before .before .before .before .before .before .is-state in
-    let g = c .before .before .before .number2 in
+    let g = c .before .before .before .head2 in
     let marks = length-take-le (g .result / 16 + 1) (zeros 147) (omega (arith, g .ensures .0, pre .counts .guards .1)) in (
       pre,
       omega (arith, marks, g .ensures .0),
@@ -53,12 +54,12 @@ returns-3 c =
     c .before .before .before .before .before .run-state .ensures
     ∙ sym (good-call (flatView (now (s .t))) (now (s .state)) (s .event) (now (s .outputs))
     (sym (good .ensures) ∙ not-false (good .result) (c .before .before .before .before .before .before .before .before .before .before .before .before .before .if1 .left))
-    (omega (arith, c .before .before .before .before .before .before .before .before .before .before .if2 .left, c .before .before .before .before .before .before .before .before .before .before .before .wide .ensures .0, c .before .before .before .before .before .before .before .before .before .before .before .before .number .ensures .0)))
+    (omega (arith, c .before .before .before .before .before .before .before .before .before .before .if2 .left, c .before .before .before .before .before .before .before .before .before .before .before .wide .ensures .0, c .before .before .before .before .before .before .before .before .before .before .before .before .head .ensures .0)))
 
 pub run-accepted-spec : {M : Type 1} → statement M
 run-accepted-spec =
     tie.close
     (tie.spec
-    (λ c κs. search needs) (λ c. search needs) returns (λ c κs. search needs) (λ c κs. search needs) (λ c. search needs)
-    returns-2 (λ c κs. search needs) (λ c. search needs) (λ c. search needs) slice-aggregate-run-state
+    (λ c κs. search needs) (λ c. search needs) returns (λ c κs. search flat-needs) (λ c κs. search needs) (λ c. search needs)
+    returns-2 (λ c κs. search flat-needs) (λ c. search needs) (λ c. search needs) slice-aggregate-run-state
     run-state-requires (λ c. search needs) (λ c. search needs) returns-3)

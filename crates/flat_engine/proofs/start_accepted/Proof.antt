@@ -12,6 +12,7 @@ use Rattle.words.proofs.Tests.{eqb-yes, eqb-no}
 use Rattle.table.specs.declared.Verdict.the-variants.{Done}
 use Rattle.effects.specs.Lent.{zeros, startTold}
 use Rattle.flat.specs.View.{Flat, flatView}
+use Rattle.flat_rules.proofs.Readable.{flat-needs}
 use Rattle.flat_meaning.specs.State.{flatLength, flatStartWords, flatStartState}
 use Rattle.flat_meaning.specs.Calls.{flatStartedOn}
 use Rattle.flat_meaning.proofs.State.{start-owned}
@@ -36,7 +37,7 @@ returns c =
     let s = c .before .before .before .before .before .args in
     let f = flatView (now (s .t)) in
     let other : length (now (s .state)) ≢ f .machines + f .variables =
-    λ e. c .if1 .taken (omega (arith, c .before .before .number .ensures .0, c .before .number2 .ensures .0)) in
+    λ e. c .if1 .taken (omega (arith, c .before .before .head .ensures .0, c .before .head2 .ensures .0)) in
     rw (eqb-no other) refl
 
 returns-2 : tie.Need-returns-2
@@ -47,8 +48,8 @@ returns-2 c =
     let start = if1 .before .before .before .before .before in
     let s = start .args in
     let f = flatView (now (s .t)) in
-    let m = if1 .before .before .number .ensures .0 in
-    let v = if1 .before .number2 .ensures .0 in
+    let m = if1 .before .before .head .ensures .0 in
+    let v = if1 .before .head2 .ensures .0 in
     let long : length (now (s .state)) ≡ f .machines + f .variables = omega (arith, m, v) in
     rw (eqb-yes long)
     (ap (startTold Done)
@@ -59,5 +60,5 @@ pub start-accepted-spec : {M : Type 1} → statement M
 start-accepted-spec =
     tie.close
     (tie.spec
-    (λ c κs. search needs) (λ c κs. search needs) (λ c. search needs) returns (λ c κs. search needs)
+    (λ c κs. search flat-needs) (λ c κs. search flat-needs) (λ c. search needs) returns (λ c κs. search needs)
     (λ c κs. search needs) (λ c. search needs) returns-2)

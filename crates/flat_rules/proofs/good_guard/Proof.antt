@@ -26,13 +26,23 @@ abbrev μ-loop : tie.MeasureT-loop
 loop-holds : tie.Need-loop-holds Inv-loop μ-loop
 loop-holds c = (omega arith, refl)
 
+-- the guard's span lies inside the literals
+good-literal-requires : tie.Need-good-literal-requires Inv-loop μ-loop
+good-literal-requires c κs =
+    let p = c .before .before .before .before .before .before in
+    let f = flatView (now (p .args .t)) in
+    let k = p .args .k in
+    let m : c .before .before .before .number-in .result ≡ f .asks k .first = cc in
+    let n : c .before .before .number-in2 .result ≡ f .asks k .count = cc in
+    (p .pre .0, omega (arith, m, n, p .pre .2, c .loop-test .taken))
+
 returns : tie.Need-returns Inv-loop μ-loop
 unfolding goodGuard?
 returns c =
     let s = c .before .before .before .before .before .before .before .before .args in
     let f = flatView (now (s .t)) in
     let i = c .before .before .before .loop .i in
-    let n : c .before .before .before .before .number2 .result ≡ f .asks (s .k) .count = cc in
+    let n : c .before .before .before .before .number-in2 .result ≡ f .asks (s .k) .count = cc in
     let told : c .before .good-literal .result ≡ held? f (s .k) i = cc in
     let fails = sym told ∙ not-true (c .before .good-literal .result) (c .if1 .taken) in
     sym (ap (allBelow (held? f (s .k))) (sym n)
@@ -52,7 +62,7 @@ unfolding goodGuard?
 returns-2 c =
     let s = c .before .before .before .before .before .before .args in
     let f = flatView (now (s .t)) in
-    let n : c .before .before .number2 .result ≡ f .asks (s .k) .count = cc in
+    let n : c .before .before .number-in2 .result ≡ f .asks (s .k) .count = cc in
     let e : c .before .loop .i ≡ f .asks (s .k) .count = omega (arith, n) in
     sym (ap (allBelow (held? f (s .k))) (sym e) ∙ c .before .loop .inv .1)
 
@@ -61,5 +71,5 @@ good-guard-spec =
     tie.close
     (tie.spec
     Inv-loop μ-loop (λ c κs. search needs) (λ c κs. search needs) (λ c. search needs) (λ c κs. search needs)
-    loop-holds (λ c. search needs) (λ c κs. search needs) returns (λ c. search needs) (λ c. search needs) loop-again
+    loop-holds (λ c. search needs) good-literal-requires returns (λ c. search needs) (λ c. search needs) loop-again
     returns-2)

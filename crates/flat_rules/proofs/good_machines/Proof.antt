@@ -8,14 +8,14 @@ use Rattle.flat_rules.proofs.good_machines.Tie as tie
 returns : tie.Need-returns
 unfolding goodMachines?
 returns c =
-    let n = c .before .before .number in
+    let n = c .before .before .head in
     let p = c .before .before .before .before .args .p in
     rw (← n .ensures .0, ltb-yes p (n .result) (c .before .if1 .taken)) cc
 
 returns-2 : tie.Need-returns-2
 unfolding goodMachines?
 returns-2 c =
-    let n = c .before .before .number in
+    let n = c .before .before .head in
     let p = c .before .before .before .before .args .p in
     rw (← n .ensures .0, ltb-no p (n .result) (c .before .if1 .left)) cc
 

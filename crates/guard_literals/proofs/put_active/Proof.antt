@@ -6,7 +6,8 @@ use mathlib.Core.Logic.{_≢_}
 use native.Mathlib.Omega.{arith}
 use denote.Ref.{now}
 use Rattle.chart.specs.View.{view}
-use Rattle.meaning.proofs.Tree.{tree, grand-lt}
+use Rattle.chart_rules.proofs.Readable.{chart-readable, chart-needs}
+use Rattle.meaning.proofs.Tree.{tree, up-lt, grand-lt}
 use Rattle.flattening.specs.Flattened.{grand, activeGuard}
 use Rattle.guard_literals.proofs.Literals.{active-top, active-inner}
 use Rattle.guard_literals.proofs.put_active.Statement.{statement}
@@ -20,6 +21,13 @@ returns c =
     let a = c .before .before .before .before .before .word .ensures ∙ start .pre .3 j (start .pre .1) in
     let top : v .parent j ≡ 0 = cc in
     (active-top v j a top (c .before .before .before .before .put-current .ensures .0), omega arith)
+
+state-word-requires-2 : tie.Need-state-word-requires-2
+state-word-requires-2 c κs =
+    let start = c .before .before .before .before .before .before .before .before .before .before .before .before in
+    let up = up-lt (tree (start .pre .0)) (start .args .j) (start .pre .1) (start .pre .2) in
+    let o = c .before .before .state-word .ensures .0 in
+    (chart-readable (start .pre .0), omega (arith, up, o, start .pre .1), omega arith)
 
 returns-2 : tie.Need-returns-2
 returns-2 c =
@@ -42,5 +50,5 @@ pub put-active-spec : {M : Type 1} → statement M
 put-active-spec =
     tie.close
     (tie.spec
-    (λ c κs. search needs) (λ c κs. search needs) (λ c κs. search needs) (λ c. search needs) returns
-    (λ c κs. search needs) (λ c κs. search needs) (λ c κs. search needs) (λ c. search needs) returns-2)
+    (λ c κs. search needs) (λ c κs. search needs) (λ c κs. search chart-needs) (λ c. search needs) returns
+    state-word-requires-2 (λ c κs. search needs) (λ c κs. search needs) (λ c. search needs) returns-2)

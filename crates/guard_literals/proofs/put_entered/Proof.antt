@@ -6,11 +6,17 @@ use mathlib.Core.Logic.{_≢_}
 use native.Mathlib.Omega.{arith}
 use denote.Ref.{now}
 use Rattle.chart.specs.View.{view}
-use Rattle.meaning.proofs.Tree.{tree}
+use Rattle.meaning.proofs.Tree.{tree, up-lt}
 use Rattle.flattening.specs.Flattened.{takenGuard}
 use Rattle.guard_literals.proofs.Literals.{entered-sure, entered-below, above-read}
 use Rattle.guard_literals.proofs.put_entered.Statement.{statement}
 use Rattle.guard_literals.proofs.put_entered.Tie as tie
+
+above-number-requires : tie.Need-above-number-requires
+above-number-requires c κs =
+    let start = c .before .before .before .before .before .before in
+    let up = up-lt (tree (start .pre .0)) (start .args .j) (start .pre .2) (start .pre .3) in
+    (start .pre .0, start .pre .2, omega (arith, up, start .pre .2), c .number .ensures .1)
 
 returns : tie.Need-returns
 returns c =
@@ -52,6 +58,6 @@ pub put-entered-spec : {M : Type 1} → statement M
 put-entered-spec =
     tie.close
     (tie.spec
-    (λ c κs. search needs) (λ c κs. search needs) (λ c κs. search needs) (λ c κs. search needs)
+    (λ c κs. search needs) above-number-requires (λ c κs. search needs) (λ c κs. search needs)
     (λ c. search needs) returns (λ c. search needs) (λ c κs. search needs) (λ c κs. search needs)
     (λ c κs. search needs) (λ c. search needs) returns-2)

@@ -5,6 +5,7 @@ use mathlib.Core.Path.{_≡_}
 use native.Mathlib.Omega.{arith}
 use denote.Ref.{now}
 use Rattle.chart.specs.View.{view}
+use Rattle.chart_rules.proofs.Readable.{chart-needs}
 use Rattle.flattening.specs.Flattened.{activeGuard}
 use Rattle.guard_literals.proofs.Literals.{taken-all}
 use Rattle.guard_literals.proofs.put_taken.Statement.{statement}
@@ -28,5 +29,5 @@ pub put-taken-spec : {M : Type 1} → statement M
 put-taken-spec =
     tie.close
     (tie.spec
-    (λ c κs. search needs) (λ c κs. search needs) (λ c κs. search needs) (λ c κs. search needs)
+    (λ c κs. search chart-needs) (λ c κs. search needs) (λ c κs. search needs) (λ c κs. search needs)
     (λ c κs. search needs) (λ c. search needs) returns)

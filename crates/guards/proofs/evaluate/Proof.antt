@@ -7,6 +7,7 @@ use denote.Ref.{now}
 use lib.ListN.{length}
 use Rattle.words.specs.Loops.{tab}
 use Rattle.flat.specs.View.{flatView}
+use Rattle.flat_rules.proofs.Readable.{flat-needs}
 use Rattle.flat_meaning.specs.Guards.{inCells, valueAt, values}
 use Rattle.marks.proofs.Marks.{Filled}
 use Rattle.guards.proofs.Values.{value-none, value-next}
@@ -31,9 +32,9 @@ loop-again c =
     let s = start .args in
     let l = c .before .before .before .before .before .before .before .loop in
     let b = c .before .before .before .before .do-all-hold in
-    let few = c .before .before .before .before .before .before .before .before .number .ensures .0 in
+    let few = c .before .before .before .before .before .before .before .before .head .ensures .0 in
     let kept : length (l .marks) ≡ length (now (s .marks)) = search needs in
-    let fits : l .k < 16 * length (l .marks) = omega (arith, start .pre, c .before .before .before .before .before .before .loop-test .taken) in (
+    let fits : l .k < 16 * length (l .marks) = omega (arith, start .pre .1, c .before .before .before .before .before .before .loop-test .taken) in (
       omega arith,
       search needs,
       rw (c .before .before .mark .ensures)
@@ -46,12 +47,12 @@ returns c =
     let s = c .before .before .before .before .before .before .before .before .before .before .before .args in
     let f = flatView (now (s .t)) in
     let l = c .before .loop in
-    let e : l .k ≡ f .guards = omega (arith, c .before .before .number .ensures .0) in
+    let e : l .k ≡ f .guards = omega (arith, c .before .before .head .ensures .0) in
     λ j. l .inv .2 j ∙ ap (λ (n : ℕ). inCells (tab (valueAt f (now (s .current)) (now (s .vars))) n) j) e
 
 pub evaluate-spec : {M : Type 1} → statement M
 evaluate-spec =
     tie.close
     (tie.spec
-    Inv-loop μ-loop (λ c κs. search needs) (λ c κs. search needs) loop-holds (λ c κs. search needs)
+    Inv-loop μ-loop (λ c κs. search needs) (λ c κs. search flat-needs) loop-holds (λ c κs. search needs)
     (λ c κs. search needs) (λ c. search needs) (λ c. search needs) loop-again (λ c. search needs) returns)

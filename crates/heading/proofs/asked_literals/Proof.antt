@@ -2,11 +2,12 @@
 use borrow.Author.Needs.{needs}
 use Prim.Native.Nat.{ℕ, _+_, _*_, _-_, _≤_}
 use mathlib.Core.Path.{_≡_, refl, ap, _∙_}
+use mathlib.Core.List.{List}
 use native.Mathlib.Numerals.{add-one}
 use native.Mathlib.Omega.{arith}
 use denote.Ref.{now}
-use lib.ListN.{getD}
-use Rattle.chart.specs.View.{view}
+use Rattle.chart.specs.View.{at, transitionAt, view}
+use Rattle.chart_rules.proofs.Readable.{chart-readable}
 use Rattle.flattening.specs.Flattened.{sumBelow}
 use Rattle.flattening.specs.Room.{askedLiterals}
 use Rattle.heading.proofs.asked_literals.Statement.{statement}
@@ -18,25 +19,32 @@ Inv-loop t n sum₀ k₀ sum k = (k ≤ n) × (sum ≡ sumBelow (λ i. view t .a
 abbrev μ-loop : tie.MeasureT-loop
 μ-loop t n sum₀ k₀ sum k = n - k
 
+-- a span's count is the word behind its first
+count-word : (t : List ℕ) (k : ℕ) → at t (transitionAt t k + 3) ≡ view t .asks k .count
+count-word t k = let e : transitionAt t k + 3 ≡ transitionAt t k + 2 + 1 = omega arith in ap (at t) e
+
 few : tie.Need-add-sum Inv-loop μ-loop
 few c =
-    let number = c .before .before .before .before .number .ensures .0 in
-    let most = c .before .before .before .before .before .before .pre .counts .transitions .1 in
+    let number = c .before .before .before .number .ensures .0 in
+    let most = c .before .before .before .before .before .pre .counts .transitions .1 in
     omega arith
+
+transition-word-requires : tie.Need-transition-word-requires Inv-loop μ-loop
+transition-word-requires c κs =
+    let rules = c .before .before .before .before .pre in
+    (chart-readable rules, omega (arith, c .loop-test .taken, c .before .before .number .ensures .0), omega arith)
 
 loop-again : tie.Need-loop-again Inv-loop μ-loop
 loop-again c =
-    let start = c .before .before .before .before .before .before in
-    let l = c .before .before .before .loop in
+    let start = c .before .before .before .before .before in
+    let l = c .before .before .loop in
     let v = view (now (start .args .t)) in
     let f : ℕ → ℕ = λ i. v .asks i .count in
-    let n = c .before .before .before .before .number .ensures .0 in
-    let at = c .before .transition-at .ensures .0 in
-    let test = c .before .before .loop-test .taken in
-    let word : c .number2 .result ≡ f (l .k) =
-    c .number2 .ensures .0 ∙ ap (λ (i : ℕ). getD (now (start .args .t)) (i + 2 + 1) 0) at in
+    let n = c .before .before .before .number .ensures .0 in
+    let test = c .before .loop-test .taken in
+    let word = c .transition-word .ensures .0 ∙ count-word (now (start .args .t)) (l .k) in
     let eight = start .pre .transition-spans (l .k) (omega arith) .few-literals in
-    let next : l .sum + c .number2 .result ≡ sumBelow f (l .k + 1) =
+    let next : l .sum + c .transition-word .result ≡ sumBelow f (l .k + 1) =
     rw (add-one (l .k)) (rw (l .inv .1, word) refl) in
     (omega arith, next, omega arith)
 
@@ -55,6 +63,5 @@ pub asked-literals-spec : {M : Type 1} → statement M
 asked-literals-spec =
     tie.close
     (tie.spec
-    Inv-loop μ-loop (λ c κs. search needs) (λ c. (omega arith, refl, omega arith)) (λ c κs. omega arith)
-    (λ c. omega arith) (λ c. omega arith) (λ c κs. search needs) few (λ c. omega arith) (λ c. omega arith) loop-again
-    returns)
+    Inv-loop μ-loop (λ c κs. search needs) (λ c. (omega arith, refl, omega arith)) (λ c. omega arith)
+    transition-word-requires few (λ c. omega arith) (λ c. omega arith) loop-again returns)

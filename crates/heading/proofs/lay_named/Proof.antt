@@ -8,6 +8,7 @@ use denote.Ref.{now}
 use lib.ListN.{length, getD}
 use Rattle.words.specs.Loops.{joinUp, when}
 use Rattle.chart.specs.View.{view}
+use Rattle.chart_rules.proofs.Readable.{chart-readable}
 use Rattle.laying.specs.Laid.{Laid}
 use Rattle.laying.proofs.Laid.{laid-none, laid-length, laid-as, laid-next}
 use Rattle.heading.specs.Named.{of?, named}
@@ -24,6 +25,18 @@ abbrev μ-loop : tie.MeasureT-loop
 
 loop-holds : tie.Need-loop-holds Inv-loop μ-loop
 loop-holds c = (omega arith, refl, laid-none)
+
+state-word-requires : tie.Need-state-word-requires Inv-loop μ-loop
+state-word-requires c κs =
+    let start = c .before .before .before .before .before .before in
+    let n = c .before .before .number .ensures .0 in
+    (chart-readable (start .pre .0), omega (arith, c .loop-test .taken), start .pre .1)
+
+is-of-requires : tie.Need-is-of-requires Inv-loop μ-loop
+is-of-requires c κs =
+    let start = c .before .before .before .before .before .before .before .before in
+    let n = c .before .before .before .before .number .ensures .0 in
+    (chart-readable (start .pre .0), omega (arith, c .before .before .loop-test .taken))
 
 put-if-requires : tie.Need-put-if-requires Inv-loop μ-loop
 put-if-requires c κs =
@@ -66,5 +79,5 @@ pub lay-named-spec : {M : Type 1} → statement M
 lay-named-spec =
     tie.close
     (tie.spec
-    Inv-loop μ-loop (λ c κs. search needs) loop-holds (λ c κs. omega arith) (λ c κs. omega arith) (λ c κs. search needs)
+    Inv-loop μ-loop (λ c κs. search needs) loop-holds state-word-requires is-of-requires (λ c κs. search needs)
     put-if-requires (λ c. omega arith) (λ c. omega arith) loop-again (λ c. search needs) returns)

@@ -9,6 +9,7 @@ use denote.Ref.{now}
 use Rattle.words.specs.Loops.{allBelow}
 use Rattle.words.proofs.Loops.{allBelow-next, allBelow-no}
 use Rattle.chart.specs.View.{view}
+use Rattle.chart_rules.proofs.Readable.{chart-needs}
 use Rattle.meaning.specs.State.{goodWord?}
 use Rattle.lent.proofs.good_words.Statement.{statement}
 use Rattle.lent.proofs.good_words.Tie as tie
@@ -25,7 +26,7 @@ loop-holds c = (omega arith, refl)
 good-word-requires : tie.Need-good-word-requires Inv-loop μ-loop
 good-word-requires c κs =
     let start = c .before .before .before .before .before .before .before in
-    (start .pre .1, omega arith, omega arith, c .before .before .before .active-set .ensures)
+    (start .pre .0, start .pre .1, omega arith, c .before .before .before .active-set .ensures)
 
 returns : tie.Need-returns Inv-loop μ-loop
 returns c =
@@ -53,5 +54,5 @@ pub good-words-spec : {M : Type 1} → statement M
 good-words-spec =
     tie.close
     (tie.spec
-    Inv-loop μ-loop (λ c κs. search needs) (λ c κs. search needs) loop-holds good-word-requires returns
+    Inv-loop μ-loop (λ c κs. search needs) (λ c κs. search chart-needs) loop-holds good-word-requires returns
     (λ c. search needs) (λ c. search needs) loop-again returns-2)

@@ -9,6 +9,7 @@ use lib.Seq.{length-take-le}
 use Rattle.words.specs.Loops.{allBelow}
 use Rattle.words.proofs.Tests.{eqb-yes, eqb-no}
 use Rattle.chart.specs.View.{view}
+use Rattle.chart_rules.proofs.Readable.{chart-needs}
 use Rattle.meaning.specs.State.{orStates, stateLength, goodWord?, stateOf?}
 use Rattle.lent.proofs.is_state.Statement.{statement}
 use Rattle.lent.proofs.is_state.Tie as tie
@@ -42,4 +43,4 @@ pub is-state-spec : {M : Type 1} → statement M
 is-state-spec =
     tie.close
     (tie.spec
-    (λ c κs. search needs) (λ c. search needs) returns slice-aggregate-good-words (λ c κs. search needs) returns-2)
+    (λ c κs. search chart-needs) (λ c. search needs) returns slice-aggregate-good-words (λ c κs. search needs) returns-2)

@@ -6,6 +6,7 @@ use native.Mathlib.Omega.{arith}
 use denote.Ref.{now}
 use Rattle.words.proofs.Loops.{rank-most}
 use Rattle.chart.specs.View.{view}
+use Rattle.chart_rules.proofs.Readable.{chart-readable, chart-needs}
 use Rattle.meaning.specs.Active.{isOr}
 use Rattle.meaning.specs.State.{orStates, startWords}
 use Rattle.lent.proofs.Laid.{Front, lay-next, lay-end, front-length}
@@ -23,21 +24,21 @@ loop-holds c = (omega arith, record { place = refl; words = refl })
 
 lay-requires : tie.Need-lay-requires Inv-loop μ-loop
 lay-requires c κs =
-    let start = c .before .before .before .before .before .before .before .before in
-    let l = c .before .before .before .before .loop in
-    (omega arith, omega (arith, rank-most (isOr (view (now (start .args .t)))) (l .o)))
+    let start = c .before .before .before .before .before .before .before in
+    let l = c .before .before .before .loop in
+    let few = start .pre .0 .counts .states .1 in
+    (chart-readable (start .pre .0), omega arith, omega (arith, rank-most (isOr (view (now (start .args .t)))) (l .o)))
 
 loop-again : tie.Need-loop-again Inv-loop μ-loop
 unfolding orStates
 loop-again c =
-    let start = c .before .before .before .before .before .before .before .before .before .before .before in
+    let start = c .before .before .before .before .before .before .before .before .before .before in
     let s = start .args in
     let v = view (now (s .t)) in
-    let l = c .before .before .before .before .before .before .before .loop in
-    let word : c .before .before .before .before .word .result ≡ v .initial (l .o) = cc in (
+    let l = c .before .before .before .before .before .before .loop in (
       omega arith,
       lay-next (isOr v) (v .initial) (now (s .state)) (v .states) (l .o) (l .at) _ (l .state) _
-          (omega arith) (start .pre .1) word (l .inv .1) (c .before .before .lay .ensures),
+          (omega arith) (start .pre .1) (c .before .before .before .before .state-word .ensures .0) (l .inv .1) (c .before .before .lay .ensures),
     )
 
 same-length : tie.Need-same-length Inv-loop μ-loop
@@ -63,5 +64,5 @@ pub lay-initials-spec : {M : Type 1} → statement M
 lay-initials-spec =
     tie.close
     (tie.spec
-    Inv-loop μ-loop (λ c κs. search needs) loop-holds (λ c κs. search needs) (λ c. search needs)
-    (λ c κs. search needs) lay-requires (λ c. search needs) (λ c. search needs) loop-again same-length returns)
+    Inv-loop μ-loop (λ c κs. search chart-needs) loop-holds (λ c κs. search chart-needs) (λ c. search needs) lay-requires
+    (λ c. search needs) (λ c. search needs) loop-again same-length returns)

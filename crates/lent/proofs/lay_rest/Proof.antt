@@ -9,6 +9,7 @@ use lib.ListN.{drop}
 use Rattle.words.specs.Loops.{rank}
 use Rattle.words.proofs.Loops.{rank-most}
 use Rattle.chart.specs.View.{view}
+use Rattle.chart_rules.proofs.Readable.{chart-readable, chart-needs}
 use Rattle.states.specs.Cells.{cells}
 use Rattle.meaning.specs.Active.{isOr}
 use Rattle.meaning.specs.Steps.{restWord}
@@ -30,13 +31,14 @@ loop-holds c = (omega arith, record { place = refl; words = refl })
 rest-word-requires : tie.Need-rest-word-requires Inv-loop μ-loop
 rest-word-requires c κs =
     let start = c .before .before .before .before .before .before .before .before in
-    (start .pre .1, omega arith, omega arith)
+    (start .pre .0, start .pre .1, omega arith)
 
 lay-requires : tie.Need-lay-requires Inv-loop μ-loop
 lay-requires c κs =
     let start = c .before .before .before .before .before .before .before .before .before .before in
     let l = c .before .before .before .loop in
-    (omega arith, omega (arith, rank-most (isOr (view (now (start .args .t)))) (l .o)))
+    let few = start .pre .0 .counts .states .1 in
+    (chart-readable (start .pre .0), omega arith, omega (arith, rank-most (isOr (view (now (start .args .t)))) (l .o)))
 
 loop-again : tie.Need-loop-again Inv-loop μ-loop
 unfolding orStates
@@ -82,5 +84,5 @@ pub lay-rest-spec : {M : Type 1} → statement M
 lay-rest-spec =
     tie.close
     (tie.spec
-    Inv-loop μ-loop (λ c κs. search needs) (λ c κs. search needs) loop-holds rest-word-requires lay-requires
+    Inv-loop μ-loop (λ c κs. search needs) (λ c κs. search chart-needs) loop-holds rest-word-requires lay-requires
     (λ c. search needs) (λ c. search needs) loop-again same-length returns)

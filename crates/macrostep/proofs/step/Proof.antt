@@ -21,7 +21,7 @@ step-chart-requires c κs =
 run-requires : tie.Need-run-requires
 run-requires c κs =
     let s = c .before .before .before .before .before .before .before .before .before .before .before .before .before .args in
-    subst (Ready (now (s .t)) (now (s .own))) (c .before .before .before .before .before .enum-told2 .given .1) (c .before .before .before .before .before .before .before .before .before .before .before .before .before .pre .0) .1
+    subst (Ready (now (s .t)) (now (s .own))) (c .before .before .before .before .before .enum-told2 .given .1) (c .before .before .before .before .before .before .before .before .before .before .before .before .before .pre .0)
 
 returns : tie.Need-returns
 returns c =

@@ -12,7 +12,7 @@ enter-all-requires c κs =
     let s = c .before .before .before .before .before .before .before .before .before .before .before .before .args in
     let pre = c .before .before .before .before .before .before .before .before .before .before .before .before .pre in
     let rules = pre .0 in (
-      rules .counts .states .1,
+      rules,
       pre .1,
       λ j e. entered-parent (now (s .t)) rules (now (s .current)) (s .k) j (sym (c .before .before .before .before .entered-set .ensures j) ∙ e),
     )

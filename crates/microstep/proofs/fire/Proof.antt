@@ -1,10 +1,10 @@
 -- `microstep::fire` meets its contract: what it returns is what its callees say. Assumes nothing.
 use borrow.Author.Tests.{not-true, not-false}
 use mathlib.Core.Path.{sym, _∙_}
-use native.Mathlib.Omega.{arith}
 use denote.Ref.{now}
 use Rattle.effects.specs.Work.{doSteps}
 use Rattle.chart.specs.View.{view}
+use Rattle.chart_rules.proofs.Readable.{chart-needs}
 use Rattle.states.specs.Cells.{cells}
 use Rattle.microstep.proofs.Fires.{fires-unscoped, fired}
 use borrow.Author.Needs.{needs}
@@ -22,7 +22,7 @@ returns c =
 enter-requires : tie.Need-enter-requires
 enter-requires c κs =
     let pre = c .before .before .before .before .before .before .before .before .before .before .before .before .before .before .before .before .before .before .before .before .before .before .before .before .pre in
-    (pre .0, pre .1, omega (arith, pre .2, pre .0 .counts .transitions .1), c .before .before .before .before .before .before .before .before .before .before .before .before .before .before .scope-of .ensures .0)
+    (pre .0, pre .1, pre .2, c .before .before .before .before .before .before .before .before .before .before .before .before .before .before .scope-of .ensures .0)
 
 returns-2 : tie.Need-returns-2
 unfolding doSteps
@@ -37,6 +37,6 @@ pub fire-spec : {M : Type 1} → statement M
 fire-spec =
     tie.close
     (tie.spec
-    (λ c κs. search needs) (λ c κs. search needs) (λ c. search needs) (λ c. search needs) (λ c. search needs)
+    (λ c κs. search chart-needs) (λ c κs. search needs) (λ c. search needs) (λ c. search needs) (λ c. search needs)
     returns (λ c κs. search needs) (λ c κs. search needs) enter-requires (λ c. search needs) (λ c. search needs)
     (λ c. search needs) (λ c. search needs) returns-2)

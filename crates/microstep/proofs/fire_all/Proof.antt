@@ -11,6 +11,7 @@ use Rattle.words.specs.Loops.{joinUp}
 use Rattle.effects.specs.Run.{Step}
 use Rattle.effects.specs.Work.{going, doSteps}
 use Rattle.chart.specs.View.{Chart, view}
+use Rattle.chart_rules.proofs.Readable.{chart-needs}
 use Rattle.states.specs.Cells.{cells}
 use Rattle.meaning.specs.Steps.{fires}
 use Rattle.effects.proofs.Going.{rises}
@@ -37,7 +38,7 @@ loop-holds c = (omega arith, refl, refl, refl, refl, refl)
 fire-taken-requires : tie.Need-fire-taken-requires Inv-loop μ-loop
 fire-taken-requires c κs =
     let pre = c .before .before .before .before .before .before .before .before .before .before .before .before .before .before .pre in
-    (pre .0, pre .1, omega (arith, c .before .before .before .before .before .before .number .ensures .0, c .before .before .before .before .loop-test .taken))
+    (pre .0, pre .1, omega (arith, c .before .before .before .before .before .before .head .ensures .0, c .before .before .before .before .loop-test .taken))
 
 loop-again : tie.Need-loop-again Inv-loop μ-loop
 loop-again c =
@@ -57,12 +58,12 @@ returns c =
     let s = c .before .before .before .before .before .before .before .before .before .before .args in
     let l = c .before .loop in
     let f = one (view (now (s .t))) (now (s .current)) (cells (s .acts)) (cells (s .taken)) in
-    let z : l .k ≡ view (now (s .t)) .transitions = omega (arith, c .before .before .number .ensures .0) in
+    let z : l .k ≡ view (now (s .t)) .transitions = omega (arith, c .before .before .head .ensures .0) in
     l .inv .5 ∙ ap (λ (k : ℕ). doSteps (s .room) (joinUp f k) (going (s .n) (now (s .next)) (now (s .vars)) (now (s .outs)) (now (s .queue)))) z
 
 pub fire-all-spec : {M : Type 1} → statement M
 fire-all-spec =
     tie.close
     (tie.spec
-    Inv-loop μ-loop (λ c κs. search needs) loop-holds fire-taken-requires (λ c. search needs) (λ c. search needs)
+    Inv-loop μ-loop (λ c κs. search chart-needs) loop-holds fire-taken-requires (λ c. search needs) (λ c. search needs)
     loop-again (λ c. search needs) (λ c. search needs) (λ c. search needs) (λ c. search needs) returns)

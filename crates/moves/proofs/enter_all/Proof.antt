@@ -11,6 +11,7 @@ use Rattle.words.specs.Loops.{joinUp, when}
 use Rattle.effects.specs.Run.{Step}
 use Rattle.effects.specs.Work.{going, doSteps}
 use Rattle.chart.specs.View.{Chart, view}
+use Rattle.chart_rules.proofs.Readable.{chart-needs}
 use Rattle.states.specs.Cells.{cells}
 use Rattle.meaning.specs.Steps.{enterStep}
 use Rattle.moves.specs.Below.{entersAll}
@@ -38,7 +39,7 @@ loop-holds c = (omega arith, refl, refl, refl, refl, refl)
 enter-one-requires : tie.Need-enter-one-requires Inv-loop μ-loop
 enter-one-requires c κs =
     let p = c .before .before .before .before .before .before .before .before .before .before .before .before .before .pre in
-    (omega (arith, p .0, c .before .before .before .before .before .before .number .ensures .0), p .1, p .2 _)
+    (p .0, omega (arith, c .before .before .before .before .before .before .head .ensures .0), p .1, p .2 _)
 
 loop-again : tie.Need-loop-again Inv-loop μ-loop
 loop-again c =
@@ -59,12 +60,12 @@ unfolding entersAll
 returns c =
     let s = c .before .before .before .before .before .before .before .before .before .args in
     let l = c .before .loop in
-    let z : l .j ≡ view (now (s .t)) .states = omega (arith, c .before .before .number .ensures .0) in
+    let z : l .j ≡ view (now (s .t)) .states = omega (arith, c .before .before .head .ensures .0) in
     l .inv .5 ∙ ap (λ (k : ℕ). doSteps (s .room) (joinUp (one (view (now (s .t))) (cells (s .entered))) k) (going (s .n) (now (s .next)) (now (s .vars)) (now (s .outs)) (now (s .queue)))) z
 
 pub enter-all-spec : {M : Type 1} → statement M
 enter-all-spec =
     tie.close
     (tie.spec
-    Inv-loop μ-loop (λ c κs. search needs) loop-holds enter-one-requires (λ c. search needs) (λ c. search needs)
+    Inv-loop μ-loop (λ c κs. search chart-needs) loop-holds enter-one-requires (λ c. search needs) (λ c. search needs)
     loop-again (λ c. search needs) (λ c. search needs) (λ c. search needs) (λ c. search needs) returns)

@@ -2,14 +2,19 @@
 use borrow.Author.Tests.{not-true, not-false}
 use mathlib.Core.Path.{_≡_, refl}
 use mathlib.Core.Bool.{false, _&&_}
+use native.Mathlib.Omega.{arith}
 use denote.Ref.{now}
 use lib.ListN.{getD}
 use Rattle.chart.specs.View.{view, isAnd}
+use Rattle.chart_rules.proofs.Readable.{chart-needs}
 use Rattle.states.specs.Cells.{cells}
 use Rattle.moves.specs.Below.{leftBelow}
 use borrow.Author.Needs.{needs}
 use Rattle.moves.proofs.is_left.Statement.{statement}
 use Rattle.moves.proofs.is_left.Tie as tie
+
+has-in-requires : tie.Need-has-in-requires
+has-in-requires c κs = let pre = c .before .before .pre in omega (arith, pre .0 .counts .states .1, pre .1)
 
 returns : tie.Need-returns
 unfolding leftBelow
@@ -31,4 +36,4 @@ pub is-left-spec : {M : Type 1} → statement M
 is-left-spec =
     tie.close
     (tie.spec
-    (λ c κs. search needs) (λ c κs. search needs) (λ c κs. search needs) returns (λ c κs. search needs) returns-2)
+    (λ c κs. search chart-needs) has-in-requires (λ c κs. search needs) returns (λ c κs. search chart-needs) returns-2)

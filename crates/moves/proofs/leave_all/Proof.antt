@@ -11,6 +11,7 @@ use Rattle.words.specs.Loops.{joinDown, when}
 use Rattle.effects.specs.Run.{Step}
 use Rattle.effects.specs.Work.{going, doSteps}
 use Rattle.chart.specs.View.{Chart, view}
+use Rattle.chart_rules.proofs.Readable.{chart-needs}
 use Rattle.states.specs.Cells.{cells}
 use Rattle.meaning.specs.Steps.{leaveStep}
 use Rattle.moves.specs.Below.{leftBelow, leavesBelow}
@@ -24,7 +25,7 @@ one c acts top j = when (leftBelow c acts top j) (leaveStep c j)
 
 abbrev Inv-loop : tie.InvT-loop
 Inv-loop t top acts room vars₀ outs₀ queue₀ m₀ j₀ vars outs queue m j =
-    (j ≤ 48) × (length vars ≡ length vars₀) × (length outs ≡ length outs₀) × (length queue ≡ length queue₀)
+    (j ≤ view t .states) × (length vars ≡ length vars₀) × (length outs ≡ length outs₀) × (length queue ≡ length queue₀)
     × ((next : List ℕ) → doSteps room (leavesBelow (view t) (cells acts) top) (going m₀ next vars₀ outs₀ queue₀)
     ≡ doSteps room (joinDown (one (view t) (cells acts) top) j) (going m next vars outs queue))
 
@@ -35,13 +36,16 @@ loop-holds : tie.Need-loop-holds Inv-loop μ-loop
 unfolding leavesBelow
 loop-holds c =
     let s = c .before .before .before .before .before .args in
-    let n = c .number .ensures .0 in (
-      omega (arith, c .before .before .before .before .before .pre),
+    let n = c .head .ensures .0 in (
+      omega (arith, n),
       refl,
       refl,
       refl,
       λ next. ap (λ (k : ℕ). doSteps (s .room) (joinDown (one (view (now (s .t))) (cells (s .acts)) (s .top)) k) (going (s .n) next (now (s .vars)) (now (s .outs)) (now (s .queue)))) (sym n),
     )
+
+leave-one-requires : tie.Need-leave-one-requires Inv-loop μ-loop
+leave-one-requires c κs = (c .before .before .before .before .before .before .before .before .before .before .pre, omega arith)
 
 loop-again : tie.Need-loop-again Inv-loop μ-loop
 loop-again c =
@@ -67,5 +71,5 @@ pub leave-all-spec : {M : Type 1} → statement M
 leave-all-spec =
     tie.close
     (tie.spec
-    Inv-loop μ-loop (λ c κs. search needs) loop-holds (λ c. search needs) (λ c κs. search needs) (λ c. search needs)
+    Inv-loop μ-loop (λ c κs. search chart-needs) loop-holds (λ c. search needs) leave-one-requires (λ c. search needs)
     loop-again (λ c. search needs) (λ c. search needs) (λ c. search needs) returns)

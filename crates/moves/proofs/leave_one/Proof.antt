@@ -2,13 +2,16 @@
 use borrow.Author.Tests.{not-true, not-false}
 use Prim.Native.Nat.{_+_}
 use mathlib.Core.Path.{_≡_, refl, sym, ap, _∙_}
+use native.Mathlib.Omega.{arith}
 use denote.Ref.{now}
 use Rattle.table.specs.Span.{spanAt}
 use Rattle.effects.specs.Work.{doSteps}
 use Rattle.chart.specs.View.{view}
+use Rattle.chart_rules.proofs.Readable.{chart-needs}
 use Rattle.meaning.specs.Steps.{leaveStep}
 use Rattle.effects.proofs.Going.{one-step}
 use Rattle.moves.proofs.Steps.{span-does}
+use Rattle.moves.proofs.Items.{span-in}
 use borrow.Author.Needs.{needs}
 use Rattle.moves.proofs.leave_one.Statement.{statement}
 use Rattle.moves.proofs.leave_one.Tie as tie
@@ -17,6 +20,13 @@ returns : tie.Need-returns
 unfolding doSteps leaveStep
 returns c =
     λ next. rw (sym (c .before .is-left .ensures) ∙ not-true (c .before .is-left .result) (c .if1 .taken)) refl
+
+run-span-requires : tie.Need-run-span-requires
+run-span-requires c κs =
+    let start = c .before .before .before .before .before .before .before .before .before .before .before in
+    let at = c .before .before .before .before .state-at in
+    let rules = start .pre .0 in
+    span-in (at .result + 3) rules (omega (arith, at .ensures .1)) (rw (at .ensures .0) (rules .state-spans (start .args .j) (start .pre .1) .exits))
 
 returns-2 : tie.Need-returns-2
 unfolding doSteps leaveStep
@@ -33,5 +43,5 @@ pub leave-one-spec : {M : Type 1} → statement M
 leave-one-spec =
     tie.close
     (tie.spec
-    (λ c κs. search needs) returns (λ c κs. search needs) (λ c. search needs) (λ c κs. search needs)
-    (λ c κs. search needs) (λ c. search needs) (λ c. search needs) (λ c. search needs) returns-2)
+    (λ c κs. search needs) returns (λ c κs. search chart-needs) (λ c. search needs) (λ c κs. search needs)
+    run-span-requires (λ c. search needs) (λ c. search needs) (λ c. search needs) returns-2)

@@ -7,6 +7,7 @@ use denote.Ref.{now}
 use lib.Dec.{eqb}
 use Rattle.words.proofs.Tests.{eqb-yes, eqb-no}
 use Rattle.chart.specs.View.{view}
+use Rattle.chart_rules.proofs.Readable.{chart-needs}
 use Rattle.numbering.specs.Above.{aboveIn}
 use Rattle.numbering.proofs.above_number.Statement.{statement}
 use Rattle.numbering.proofs.above_number.Tie as tie
@@ -44,4 +45,4 @@ pub above-number-spec : {M : Type 1} → statement M
 above-number-spec =
     tie.close
     (tie.spec
-    (λ c κs. search needs) returns returns-2 (λ c κs. search needs) (λ c κs. search needs) returns-3)
+    (λ c κs. search chart-needs) returns returns-2 (λ c κs. search chart-needs) (λ c κs. search needs) returns-3)

@@ -8,6 +8,7 @@ use lib.ListN.{length}
 use Rattle.words.specs.Loops.{rank}
 use Rattle.words.proofs.Loops.{rank-most}
 use Rattle.chart.specs.View.{view}
+use Rattle.chart_rules.proofs.Readable.{chart-needs}
 use Rattle.numbering.specs.Which.{numbered?}
 use Rattle.numbering.proofs.Cells.{Upto, upto-none, upto-next}
 use Rattle.numbering.proofs.number_states.Statement.{statement}
@@ -80,5 +81,5 @@ pub number-states-spec : {M : Type 1} → statement M
 number-states-spec =
     tie.close
     (tie.spec
-    Inv-loop μ-loop (λ c κs. search needs) loop-holds put-number-requires (λ c κs. search needs) counted-requires
+    Inv-loop μ-loop (λ c κs. search needs) loop-holds put-number-requires (λ c κs. search chart-needs) counted-requires
     (λ c. omega arith) (λ c. omega arith) loop-again (λ c. search needs) returns)

@@ -1,11 +1,13 @@
--- `numbering::refer_number` meets its contract: each branch is one of its tests. Assumes nothing.
-use borrow.Author.Needs.{needs}
+-- `numbering::refer_number` meets its contract: each branch is one of its tests; an and-state's parent has a smaller number,
+-- so it is a state. Assumes nothing.
 use borrow.Author.Tests.{not-true, not-false}
 use mathlib.Core.Path.{_≡_, refl, sym, _∙_}
 use mathlib.Core.Bool.{true, false}
 use native.Mathlib.Omega.{arith}
 use denote.Ref.{now}
 use Rattle.chart.specs.View.{view, isAnd}
+use Rattle.chart_rules.proofs.Readable.{chart-needs}
+use Rattle.meaning.proofs.Tree.{tree, up-lt}
 use Rattle.numbering.proofs.refer_number.Statement.{statement}
 use Rattle.numbering.proofs.refer_number.Tie as tie
 
@@ -23,6 +25,14 @@ returns-2 c =
     sym (c .before .before .is-and .ensures) ∙ not-false (c .before .before .is-and .result) (c .before .if1 .left) in
     (rw (is, c .if2 .taken) refl, omega arith)
 
+above-number-requires : tie.Need-above-number-requires
+above-number-requires c κs =
+    let start = c .before .before .before .before .before in
+    let is-and = c .before .before .is-and in
+    let and = sym (is-and .ensures) ∙ not-false (is-and .result) (c .before .if1 .left) in
+    let up = up-lt (tree (start .pre .0)) (start .args .j) (start .pre .1) and in
+    (start .pre .0, start .pre .1, omega (arith, start .pre .1), start .pre .2)
+
 returns-3 : tie.Need-returns-3
 returns-3 c =
     let s = c .before .before .before .before .before .before .args in
@@ -33,4 +43,4 @@ returns-3 c =
 pub refer-number-spec : {M : Type 1} → statement M
 refer-number-spec =
     tie.close (tie.spec
-    (λ c κs. search needs) returns returns-2 (λ c κs. search needs) returns-3)
+    (λ c κs. search chart-needs) returns returns-2 above-number-requires returns-3)

@@ -40,7 +40,7 @@ refer-number-requires c κs =
     let most = entered-most (view (now (start .args .t))) (start .args .k) (l .j) (counts .states .1) (counts .transitions .1) in
     let next = l .inv .1 .counts in
     let taken = c .before .before .before .before .number2 .ensures .1 in
-    (omega (arith, counts .states .1), taken, omega (arith, next, counts .states .1, counts .transitions .1))
+    (start .pre .0, omega arith, taken, omega (arith, next, counts .states .1, counts .transitions .1))
 
 counted-requires : tie.Need-counted-requires Inv-loop μ-loop
 counted-requires c κs =

@@ -5,6 +5,7 @@ use mathlib.Core.Path.{ap, _∙_}
 use denote.Ref.{now}
 use lib.ListN.{getD}
 use Rattle.chart.specs.View.{view}
+use Rattle.chart_rules.proofs.Readable.{chart-needs}
 use Rattle.numbering.proofs.taken_number.Statement.{statement}
 use Rattle.numbering.proofs.taken_number.Tie as tie
 
@@ -18,5 +19,6 @@ returns c =
     (rw (c .before .before .if1 .taken) (c .number .ensures .0 ∙ source ∙ number), c .number .ensures .1)
 
 pub taken-number-spec : {M : Type 1} → statement M
-taken-number-spec = tie.close (tie.spec
-    (λ c κs. search needs) (λ c κs. search needs) returns (λ c. search needs))
+taken-number-spec =
+    tie.close (tie.spec
+    (λ c κs. search chart-needs) (λ c κs. search needs) returns (λ c. search needs))

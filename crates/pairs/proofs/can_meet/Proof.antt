@@ -1,7 +1,7 @@
 -- `pairs::can_meet` meets its contract: states can be active together just where one is at or above the other, or they are
 -- apart. Assumes nothing.
-use borrow.Author.Needs.{needs}
 use mathlib.Core.Path.{sym, _∙_}
+use Rattle.chart_rules.proofs.Readable.{chart-needs}
 use Rattle.meaning.proofs.Tree.{tree}
 use Rattle.pairs.proofs.Meets.{meets-near}
 use Rattle.pairs.proofs.can_meet.Statement.{statement}
@@ -33,4 +33,4 @@ pub can-meet-spec : {M : Type 1} → statement M
 can-meet-spec =
     tie.close
     (tie.spec
-    (λ c κs. search needs) returns (λ c κs. search needs) returns-2 (λ c κs. search needs) returns-3)
+    (λ c κs. search chart-needs) returns (λ c κs. search chart-needs) returns-2 (λ c κs. search chart-needs) returns-3)

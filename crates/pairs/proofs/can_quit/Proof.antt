@@ -1,10 +1,10 @@
 -- `pairs::can_quit` meets its contract: it makes the tests of `quits`, the cheap ones first. Assumes nothing.
-use borrow.Author.Needs.{needs}
 use borrow.Author.Tests.{not-true, not-false}
 use mathlib.Core.Path.{_≡_, sym, _∙_}
 use mathlib.Core.Bool.{_&&_}
 use denote.Ref.{now}
 use Rattle.chart.specs.View.{view, isAnd}
+use Rattle.chart_rules.proofs.Readable.{chart-needs}
 use Rattle.meaning.specs.Scope.{scope, scoped, beneath}
 use Rattle.flattening.specs.Flattened.{some?, meets, quits}
 use Rattle.pairs.proofs.Pairs.{quits-nothing, quits-outside, quits-together}
@@ -57,5 +57,5 @@ pub can-quit-spec : {M : Type 1} → statement M
 can-quit-spec =
     tie.close
     (tie.spec
-    (λ c κs. search needs) returns (λ c κs. search needs) returns-2 (λ c κs. search needs) can-meet-requires
+    (λ c κs. search chart-needs) returns (λ c κs. search chart-needs) returns-2 (λ c κs. search chart-needs) can-meet-requires
     returns-3)

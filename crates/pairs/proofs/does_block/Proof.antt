@@ -7,6 +7,7 @@ use lib.Dec.{eqb}
 use denote.Ref.{now}
 use Rattle.words.proofs.Tests.{eqb-yes, eqb-no}
 use Rattle.chart.specs.View.{view}
+use Rattle.chart_rules.proofs.Readable.{chart-needs}
 use Rattle.flattening.specs.Flattened.{meets, blocks}
 use Rattle.pairs.proofs.does_block.Statement.{statement}
 use Rattle.pairs.proofs.does_block.Tie as tie
@@ -58,5 +59,5 @@ pub does-block-spec : {M : Type 1} → statement M
 does-block-spec =
     tie.close
     (tie.spec
-    (λ c κs. search needs) (λ c κs. search needs) returns (λ c κs. search needs) returns-2 (λ c κs. search needs)
-    (λ c κs. search needs) can-meet-requires returns-3)
+    (λ c κs. search chart-needs) (λ c κs. search chart-needs) returns (λ c κs. search needs) returns-2
+    (λ c κs. search chart-needs) (λ c κs. search chart-needs) can-meet-requires returns-3)

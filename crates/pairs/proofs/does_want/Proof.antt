@@ -6,6 +6,7 @@ use lib.Dec.{eqb}
 use denote.Ref.{now}
 use Rattle.words.proofs.Tests.{eqb-yes, eqb-no}
 use Rattle.chart.specs.View.{view}
+use Rattle.chart_rules.proofs.Readable.{chart-needs}
 use Rattle.flattening.specs.Flattened.{wants}
 use Rattle.pairs.proofs.does_want.Statement.{statement}
 use Rattle.pairs.proofs.does_want.Tie as tie
@@ -38,4 +39,4 @@ pub does-want-spec : {M : Type 1} → statement M
 does-want-spec =
     tie.close
     (tie.spec
-    (λ c κs. search needs) returns (λ c κs. search needs) returns-2 (λ c κs. search needs) returns-3)
+    (λ c κs. search chart-needs) returns (λ c κs. search needs) returns-2 (λ c κs. search needs) returns-3)

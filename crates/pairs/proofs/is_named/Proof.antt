@@ -1,14 +1,15 @@
 -- `pairs::is_named` meets its contract: what is asked of all literals is asked of those left. Assumes nothing.
 use borrow.Author.Needs.{needs}
-use Prim.Native.Nat.{ℕ, _+_, _<_}
+use Prim.Native.Nat.{ℕ, _+_, _≤_}
 use mathlib.Core.Path.{_≡_, sym, ap₂, _∙_}
 use native.Mathlib.Omega.{arith}
 use denote.Ref.{now}
 use Rattle.words.specs.Loops.{many, any}
 use Rattle.words.proofs.Many.{any-here, any-later, any-end}
-use Rattle.chart.specs.View.{Chart, view}
+use Rattle.chart.specs.View.{Chart, transitionAt, view}
 use Rattle.chart.specs.declared.Literal.{Literal}
 use Rattle.chart.specs.Literals.{literalIn}
+use Rattle.chart_rules.proofs.Readable.{chart-readable, chart-needs}
 use Rattle.meaning.specs.Taken.{literalsOf}
 use Rattle.flattening.specs.Flattened.{mentions}
 use Rattle.pairs.proofs.is_named.Statement.{statement}
@@ -19,25 +20,36 @@ abbrev literal : Chart → ℕ → Literal
 literal c n = literalIn (c .literal n)
 
 abbrev Inv-loop : tie.InvT-loop
-Inv-loop t k j at i₀ left₀ i left =
-    (i + left < 131072)
+Inv-loop t k j i₀ left₀ i left =
+    (i + left ≤ view t .literals)
     × (any (mentions (view t) j) (literalsOf (view t) k) ≡ any (mentions (view t) j) (many (literal (view t)) i left))
 
 abbrev μ-loop : tie.MeasureT-loop
-μ-loop t k j at i₀ left₀ i left = left
+μ-loop t k j i₀ left₀ i left = left
 
 loop-holds : tie.Need-loop-holds Inv-loop μ-loop
 unfolding literalsOf
 loop-holds c =
-    let s = c .before .before .before .before .args in
+    let start = c .before .before .before in
+    let s = start .args in
     let v = view (now (s .t)) in
-    let first : v .asks (s .k) .first ≡ c .before .number .result = cc in
-    let count : v .asks (s .k) .count ≡ c .number2 .result = cc in
-    (omega arith, ap₂ (λ (i n : ℕ). any (mentions v (s .j)) (many (literal v) i n)) first count)
+    let n = transitionAt (now (s .t)) (s .k) in
+    let behind : n + 3 ≡ n + 2 + 1 = omega arith in
+    let inside = start .pre .0 .transition-spans (s .k) (start .pre .1) .literals in
+    let first : v .asks (s .k) .first ≡ c .before .transition-word .result = cc in
+    let count : v .asks (s .k) .count ≡ c .transition-word2 .result = cc in (
+      omega (arith, inside, first, count),
+      ap₂ (λ (i n : ℕ). any (mentions v (s .j)) (many (literal v) i n)) first count,
+    )
+
+does-name-requires : tie.Need-does-name-requires Inv-loop μ-loop
+does-name-requires c κs =
+    let s = c .before .before .before .before .before in
+    (chart-readable (s .pre .0), omega (arith, c .before .loop .inv .0, c .loop-test .taken))
 
 returns : tie.Need-returns Inv-loop μ-loop
 returns c =
-    let s = c .before .before .before .before .before .before .before .before .args in
+    let s = c .before .before .before .before .before .before .before .args in
     let l = c .before .before .before .loop in
     let v = view (now (s .t)) in
     sym (l .inv .1 ∙ any-here (mentions v (s .j)) (literal v) (l .i) (l .left) (c .before .before .loop-test .taken)
@@ -45,7 +57,7 @@ returns c =
 
 loop-again : tie.Need-loop-again Inv-loop μ-loop
 loop-again c =
-    let s = c .before .before .before .before .before .before .before .before .args in
+    let s = c .before .before .before .before .before .before .before .args in
     let l = c .before .before .before .loop in
     let v = view (now (s .t)) in (
       omega arith,
@@ -55,7 +67,7 @@ loop-again c =
 
 returns-2 : tie.Need-returns-2 Inv-loop μ-loop
 returns-2 c =
-    let s = c .before .before .before .before .before .before .args in
+    let s = c .before .before .before .before .before .args in
     let l = c .before .loop in
     let v = view (now (s .t)) in
     sym (l .inv .1 ∙ any-end (mentions v (s .j)) (literal v) (l .i) (l .left) (c .loop-test .left))
@@ -64,6 +76,5 @@ pub is-named-spec : {M : Type 1} → statement M
 is-named-spec =
     tie.close
     (tie.spec
-    Inv-loop μ-loop (λ c κs. search needs) (λ c. search needs) (λ c κs. search needs) (λ c. search needs)
-    (λ c. search needs) (λ c κs. search needs) loop-holds (λ c κs. search needs) returns (λ c. omega arith)
-    (λ c. omega arith) (λ c. omega arith) loop-again returns-2)
+    Inv-loop μ-loop (λ c κs. search chart-needs) (λ c. search needs) (λ c κs. search chart-needs) loop-holds
+    does-name-requires returns (λ c. omega arith) (λ c. omega arith) (λ c. omega arith) loop-again returns-2)

@@ -9,7 +9,10 @@ use lib.ListN.{getD}
 use native.Mathlib.Omega.{arith}
 use denote.Ref.{now}
 use Rattle.chart.specs.View.{view}
+use Rattle.chart_rules.proofs.Readable.{chart-needs}
+use Rattle.meaning.proofs.Tree.{tree, up-lt}
 use Rattle.flattening.specs.Flattened.{comes, entryRule}
+use Rattle.flattening.proofs.Bounds.{comes-and}
 use Rattle.laying.proofs.Laid.{laid-none}
 use Rattle.rule_rows.proofs.Ruled.{one-rule, same-row}
 use Rattle.rule_rows.proofs.lay_entry.Statement.{statement}
@@ -23,6 +26,18 @@ returns c =
     let told : comes (view (now (s .t))) (s .k) (s .j) ≡ false =
     sym (start .pre .2 (s .j) (start .pre .3)) ∙ sym (has .ensures) ∙ not-true (has .result) (c .if1 .taken) in
     (rw told laid-none, omega arith)
+
+-- what a rule enters is an and-state, and so has a parent
+target-of-requires : tie.Need-target-of-requires
+target-of-requires c κs =
+    let earlier = c .before .before .before .before .before .before in
+    let start = earlier .before .before .before .before .before .before .before in
+    let s = start .args in
+    let v = view (now (s .t)) in
+    let has = earlier .before .has in
+    let told = sym (start .pre .2 (s .j) (start .pre .3)) ∙ sym (has .ensures) ∙ not-false (has .result) (earlier .if1 .left) in
+    let up = up-lt (tree (start .pre .0)) (s .j) (start .pre .3) (comes-and v (s .k) (s .j) (start .pre .3) told) in
+    (start .pre .0, start .pre .1, start .pre .3, omega (arith, up, start .pre .3), start .pre .4)
 
 returns-2 : tie.Need-returns-2
 unfolding entryRule
@@ -54,6 +69,6 @@ pub lay-entry-spec : {M : Type 1} → statement M
 lay-entry-spec =
     tie.close
     (tie.spec
-    (λ c κs. search needs) returns (λ c κs. search needs) (λ c κs. search needs) (λ c κs. search needs)
-    (λ c. search needs) (λ c κs. search needs) (λ c κs. search needs) (λ c κs. search needs)
+    (λ c κs. search needs) returns (λ c κs. search needs) (λ c κs. search needs) (λ c κs. search chart-needs)
+    (λ c. search needs) (λ c κs. search needs) (λ c κs. search chart-needs) target-of-requires
     (λ c κs. search needs) (λ c. search needs) returns-2)

@@ -7,6 +7,7 @@ use native.Mathlib.Omega.{arith}
 use denote.Ref.{now}
 use lib.ListN.{getD}
 use Rattle.chart.specs.View.{view}
+use Rattle.chart_rules.proofs.Readable.{chart-needs}
 use Rattle.flattening.specs.Flattened.{exitRule}
 use Rattle.laying.proofs.Laid.{laid-none}
 use Rattle.rule_rows.proofs.Ruled.{one-rule, same-row}
@@ -41,6 +42,6 @@ pub lay-exit-spec : {M : Type 1} → statement M
 lay-exit-spec =
     tie.close
     (tie.spec
-    (λ c κs. search needs) returns (λ c κs. search needs) (λ c κs. search needs) (λ c κs. search needs)
-    (λ c. search needs) (λ c κs. search needs) (λ c κs. search needs) (λ c κs. search needs) (λ c. search needs)
+    (λ c κs. search needs) returns (λ c κs. search needs) (λ c κs. search needs) (λ c κs. search chart-needs)
+    (λ c. search needs) (λ c κs. search needs) (λ c κs. search chart-needs) (λ c κs. search needs) (λ c. search needs)
     returns-2)

@@ -7,6 +7,7 @@ use denote.Ref.{now}
 use lib.ListN.{getD}
 use Rattle.words.proofs.Tests.{eqb-yes, eqb-no}
 use Rattle.chart.specs.View.{view}
+use Rattle.chart_rules.proofs.Readable.{chart-needs}
 use Rattle.flattening.specs.Flattened.{ownRule}
 use Rattle.laying.proofs.Laid.{laid-none}
 use Rattle.rule_rows.proofs.Ruled.{one-rule, same-row}
@@ -42,5 +43,5 @@ pub lay-own-spec : {M : Type 1} → statement M
 lay-own-spec =
     tie.close
     (tie.spec
-    (λ c κs. search needs) (λ c. search needs) (λ c κs. search needs) returns (λ c κs. search needs)
-    (λ c κs. search needs) (λ c κs. search needs) (λ c κs. search needs) (λ c. search needs) returns-2)
+    (λ c κs. search chart-needs) (λ c. search needs) (λ c κs. search needs) returns (λ c κs. search needs)
+    (λ c κs. search needs) (λ c κs. search chart-needs) (λ c κs. search needs) (λ c. search needs) returns-2)

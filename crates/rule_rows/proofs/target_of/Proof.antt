@@ -11,7 +11,7 @@ returns-2 : tie.Need-returns-2
 returns-2 c =
     let start = c .before .before .before .before .before in
     rw (sym (c .before .before .is-decided .ensures) ∙ c .before .if1 .left)
-    (c .word .ensures ∙ start .pre .3 (start .args .j) (start .pre .2))
+    (c .word .ensures ∙ start .pre .4 (start .args .j) (start .pre .2))
 
 pub target-of-spec : {M : Type 1} → statement M
 target-of-spec = tie.close (tie.spec

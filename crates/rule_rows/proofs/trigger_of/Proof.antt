@@ -8,4 +8,4 @@ returns c = cc
 
 pub trigger-of-spec : {M : Type 1} → statement M
 trigger-of-spec = tie.close (tie.spec
-    (λ c κs. search needs) (λ c. search needs) (λ c κs. search needs) returns)
+    (λ c κs. search needs) (λ c. search needs) returns)

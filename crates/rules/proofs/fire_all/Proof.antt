@@ -12,6 +12,7 @@ use Rattle.effects.specs.Run.{Step}
 use Rattle.effects.specs.Work.{going, doSteps}
 use Rattle.effects.proofs.Going.{rises}
 use Rattle.flat.specs.View.{Flat, flatView}
+use Rattle.flat_rules.proofs.Readable.{flat-needs}
 use Rattle.flat_meaning.specs.Steps.{ruleStep, fires?, firing}
 use Rattle.marks.specs.Bits.{marked}
 use Rattle.rules.proofs.fire_all.Statement.{statement}
@@ -53,12 +54,12 @@ returns c =
     let s = c .before .before .before .before .before .before .before .before .before .args in
     let l = c .before .loop in
     let f = one (flatView (now (s .t))) (s .e) (marked (now (s .marks))) in
-    let z : l .k ≡ flatView (now (s .t)) .rules = omega (arith, c .before .before .number .ensures .0) in
+    let z : l .k ≡ flatView (now (s .t)) .rules = omega (arith, c .before .before .head .ensures .0) in
     l .inv .5 ∙ ap (λ (k : ℕ). doSteps (s .room) (joinUp f k) (going (s .n) (now (s .next)) (now (s .vars)) (now (s .outs)) (now (s .queue)))) z
 
 pub fire-all-spec : {M : Type 1} → statement M
 fire-all-spec =
     tie.close
     (tie.spec
-    Inv-loop μ-loop (λ c κs. search needs) loop-holds (λ c κs. search needs) (λ c. search needs) (λ c. search needs)
+    Inv-loop μ-loop (λ c κs. search flat-needs) loop-holds (λ c κs. search needs) (λ c. search needs) (λ c. search needs)
     loop-again (λ c. search needs) (λ c. search needs) (λ c. search needs) (λ c. search needs) returns)

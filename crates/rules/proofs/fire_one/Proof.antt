@@ -8,10 +8,18 @@ use Rattle.table.specs.Span.{spanAt}
 use Rattle.effects.specs.Work.{doSteps}
 use Rattle.effects.proofs.Going.{one-step}
 use Rattle.flat.specs.View.{flatView}
+use Rattle.flat_rules.proofs.Readable.{flat-needs}
 use Rattle.flat_meaning.specs.Steps.{flatItemsOf, ruleStep}
+use Rattle.rules.proofs.Inside.{items-in}
 use Rattle.rules.proofs.Firing.{span-does}
 use Rattle.rules.proofs.fire_one.Statement.{statement}
 use Rattle.rules.proofs.fire_one.Tie as tie
+
+run-span-requires : tie.Need-run-span-requires
+run-span-requires c κs =
+    let at = c .before .before .before .before in
+    let p = at .before .before .before .before .before .before .before .before .before .before .before .before .before in
+    items-in (now (p .args .t)) (p .pre .0) (p .args .k) (p .pre .1) (at .rule-at .result) (at .rule-at .ensures .0)
 
 returns : tie.Need-returns
 unfolding doSteps
@@ -35,6 +43,6 @@ pub fire-one-spec : {M : Type 1} → statement M
 fire-one-spec =
     tie.close
     (tie.spec
-    (λ c κs. search needs) returns (λ c κs. search needs) (λ c κs. search needs) (λ c. search needs)
-    (λ c κs. search needs) (λ c κs. search needs) (λ c. search needs) (λ c. search needs) (λ c. search needs)
+    (λ c κs. search flat-needs) returns (λ c κs. search needs) (λ c κs. search flat-needs) (λ c. search needs)
+    (λ c κs. search needs) run-span-requires (λ c. search needs) (λ c. search needs) (λ c. search needs)
     (λ c. search needs) returns-2)

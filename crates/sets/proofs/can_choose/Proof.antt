@@ -4,6 +4,7 @@ use mathlib.Core.Path.{_≡_}
 use mathlib.Core.Bool.{true, false}
 use denote.Ref.{now}
 use Rattle.chart.specs.View.{view}
+use Rattle.chart_rules.proofs.Readable.{chart-needs}
 use Rattle.meaning.specs.Entered.{keepsWord, entersLatest, aimed}
 use Rattle.sets.proofs.can_choose.Statement.{statement}
 use Rattle.sets.proofs.can_choose.Tie as tie
@@ -37,5 +38,5 @@ pub can-choose-spec : {M : Type 1} → statement M
 can-choose-spec =
     tie.close
     (tie.spec
-    (λ c κs. search needs) (λ c κs. search needs) (λ c κs. search needs) returns (λ c κs. search needs) returns-2
-    (λ c κs. search needs) returns-3)
+    (λ c κs. search chart-needs) (λ c κs. search needs) (λ c κs. search needs) returns (λ c κs. search chart-needs)
+    returns-2 (λ c κs. search chart-needs) returns-3)

@@ -9,6 +9,7 @@ use denote.Ref.{now}
 use lib.ListN.{getD}
 use Rattle.words.specs.Loops.{tab}
 use Rattle.chart.specs.View.{view}
+use Rattle.chart_rules.proofs.Readable.{chart-needs}
 use Rattle.states.specs.Cells.{cells}
 use Rattle.states.proofs.Cells.{Growing, growing-none, growing-next}
 use Rattle.flattening.specs.Flattened.{mayAt, may}
@@ -39,9 +40,7 @@ loop-holds c =
 can-enter-requires : tie.Need-can-enter-requires Inv-loop μ-loop
 can-enter-requires c κs =
     let pre = c .before .before .before .before .before .before .before .pre in
-    let few = pre .0 .counts .states .1 in
-    let many = pre .0 .counts .transitions .1 in
-    (omega (arith, pre .1), omega (arith, c .before .before .number .ensures .0), pre .2)
+    (pre .0, pre .1, omega (arith, c .before .before .number .ensures .0), pre .2)
 
 loop-again : tie.Need-loop-again Inv-loop μ-loop
 loop-again c =
@@ -71,5 +70,5 @@ pub may-set-spec : {M : Type 1} → statement M
 may-set-spec =
     tie.close
     (tie.spec
-    Inv-loop μ-loop (λ c κs. search needs) (λ c κs. search needs) returns (λ c κs. search needs) loop-holds
+    Inv-loop μ-loop (λ c κs. search needs) (λ c κs. search chart-needs) returns (λ c κs. search needs) loop-holds
     can-enter-requires (λ c κs. search needs) (λ c. omega arith) (λ c. omega arith) loop-again returns-2)

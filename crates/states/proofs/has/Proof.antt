@@ -1,18 +1,13 @@
 -- `states::has` meets its contract: below 48 it is the bit, and past that the set has no cell. Assumes nothing.
 use Rattle.states.specs.Cells.{cells}
-use Rattle.states.proofs.Bits.{cell-in, cell-out}
+use Rattle.states.proofs.Bits.{cell-out}
 use borrow.Author.Needs.{needs}
 use Rattle.states.proofs.has.Statement.{statement}
 use Rattle.states.proofs.has.Tie as tie
-
-returns : tie.Need-returns
-unfolding cells
-returns c = let s = c .before .before .args in cell-in (s .s .bits) (s .k) _ (c .before .if1 .taken) (c .has-bit .ensures)
 
 returns-2 : tie.Need-returns-2
 unfolding cells
 returns-2 c = let s = c .before .args in cell-out (s .s .bits) (s .k) (c .if1 .left)
 
 pub has-spec : {M : Type 1} → statement M
-has-spec = tie.close (tie.spec
-    (λ c κs. search needs) returns returns-2)
+has-spec = tie.close (tie.spec (λ c κs. search needs) (λ c. c .has-in .ensures) returns-2)

@@ -6,10 +6,10 @@ use Rattle.table.proofs.follows.Statement.{statement}
 use Rattle.table.proofs.follows.Tie as tie
 
 mul-result : tie.Need-mul-result
-mul-result c = omega (arith, mul-le-mul (c .before .before .before .before .pre) (c .number3 .ensures .1))
+mul-result c = omega (arith, mul-le-mul (c .before .before .before .before .pre .2) (c .number-in3 .ensures .1))
 
 add-result : tie.Need-add-result
-add-result c = omega (arith, mul-le-mul (c .before .before .before .before .pre) (c .number3 .ensures .1))
+add-result c = omega (arith, mul-le-mul (c .before .before .before .before .pre .2) (c .number-in3 .ensures .1))
 
 returns : tie.Need-returns
 returns c = cc

@@ -7,9 +7,10 @@ use native.Mathlib.Omega.{arith}
 use denote.Ref.{now}
 use Rattle.words.specs.Loops.{many, all}
 use Rattle.words.proofs.Many.{all-good, all-bad, all-end}
-use Rattle.chart.specs.View.{Chart, view}
+use Rattle.chart.specs.View.{Chart, transitionAt, view}
 use Rattle.chart.specs.declared.Literal.{Literal}
 use Rattle.chart.specs.Literals.{literalIn}
+use Rattle.chart_rules.proofs.Readable.{chart-readable, chart-needs}
 use Rattle.states.specs.Cells.{cells}
 use Rattle.meaning.specs.Taken.{holds, literalsOf, condition}
 use Rattle.taken.proofs.meets_condition.Statement.{statement}
@@ -20,20 +21,32 @@ abbrev literal : Chart → ℕ → Literal
 literal c n = literalIn (c .literal n)
 
 abbrev Inv-loop : tie.InvT-loop
-Inv-loop t acts vars k at i₀ left₀ i left =
-    (i + left ≤ 200000)
+Inv-loop t acts vars k i₀ left₀ i left =
+    (i + left ≤ view t .literals)
     × (condition (view t) (cells acts) vars k ≡ all (holds (cells acts) vars) (many (literal (view t)) i left))
 
 abbrev μ-loop : tie.MeasureT-loop
-μ-loop t acts vars k at i₀ left₀ i left = left
+μ-loop t acts vars k i₀ left₀ i left = left
 
 loop-holds : tie.Need-loop-holds Inv-loop μ-loop
 unfolding condition literalsOf
-loop-holds c = (omega arith, cc)
+loop-holds c =
+    let s = c .before .before .before .before in
+    let n = transitionAt (now (s .args .t)) (s .args .k) in
+    let behind : n + 3 ≡ n + 2 + 1 = omega arith in
+    let inside = s .pre .0 .transition-spans (s .args .k) (s .pre .1) .literals in
+    let first = c .before .transition-word .ensures .0 in
+    let count : c .transition-word2 .result ≡ view (now (s .args .t)) .asks (s .args .k) .count = cc in
+    (omega (arith, inside, first, count), cc)
+
+literal-at-requires : tie.Need-literal-at-requires Inv-loop μ-loop
+literal-at-requires c κs =
+    let s = c .before .before .before .before .before .before in
+    (chart-readable (s .pre .0), omega (arith, c .before .loop .inv .0, c .loop-test .taken))
 
 returns : tie.Need-returns Inv-loop μ-loop
 returns c =
-    let s = c .before .before .before .before .before .before .before .before .before .before .args in
+    let s = c .before .before .before .before .before .before .before .before .before .args in
     let l = c .before .before .before .before .loop in
     let v = view (now (s .t)) in
     let p = holds (cells (s .acts)) (now (s .vars)) in
@@ -43,7 +56,7 @@ returns c =
 
 loop-again : tie.Need-loop-again Inv-loop μ-loop
 loop-again c =
-    let s = c .before .before .before .before .before .before .before .before .before .before .args in
+    let s = c .before .before .before .before .before .before .before .before .before .args in
     let l = c .before .before .before .before .loop in
     let v = view (now (s .t)) in
     let p = holds (cells (s .acts)) (now (s .vars)) in
@@ -55,7 +68,7 @@ loop-again c =
 
 returns-2 : tie.Need-returns-2 Inv-loop μ-loop
 returns-2 c =
-    let s = c .before .before .before .before .before .before .before .args in
+    let s = c .before .before .before .before .before .before .args in
     let l = c .before .loop in
     let v = view (now (s .t)) in
     let p = holds (cells (s .acts)) (now (s .vars)) in
@@ -65,6 +78,6 @@ pub meets-condition-spec : {M : Type 1} → statement M
 meets-condition-spec =
     tie.close
     (tie.spec
-    Inv-loop μ-loop (λ c κs. search needs) (λ c. search needs) (λ c κs. search needs) (λ c. search needs)
-    (λ c. search needs) (λ c κs. search needs) loop-holds (λ c κs. search needs) (λ c κs. search needs) returns
-    (λ c. search needs) (λ c. search needs) (λ c. search needs) loop-again returns-2)
+    Inv-loop μ-loop (λ c κs. search chart-needs) (λ c. search needs) (λ c κs. search chart-needs) loop-holds
+    literal-at-requires (λ c κs. search needs) returns (λ c. omega arith) (λ c. omega arith) (λ c. omega arith)
+    loop-again returns-2)

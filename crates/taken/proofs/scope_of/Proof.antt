@@ -1,14 +1,14 @@
 -- `taken::scope_of` meets its contract: each state that is above all is above the state come to, so the first one met is
 -- the greatest. Assumes nothing.
-use borrow.Author.Needs.{needs}
 use mathlib.Core.Path.{_≡_, _∙_}
 use mathlib.Core.Bool.{true, false}
 use native.Mathlib.Omega.{arith}
 use denote.Ref.{now}
 use Rattle.chart.specs.View.{view}
+use Rattle.chart_rules.proofs.Readable.{chart-readable, chart-needs}
 use Rattle.chart_rules.proofs.Told.{parent-smaller}
 use Rattle.meaning.specs.Scope.{aboveAll}
-use Rattle.taken.proofs.Scope.{Under, at-source, at-root, found, not-yet}
+use Rattle.taken.proofs.Scope.{Under, at-source, at-root, above-source, found, not-yet}
 use Rattle.taken.proofs.scope_of.Statement.{statement}
 use Rattle.taken.proofs.scope_of.Tie as tie
 
@@ -24,13 +24,19 @@ loop-holds c =
     let pre = c .before .before .pre in
     rw (c .transition-word .ensures .0) (at-source (view (now (s .t))) (s .k) (pre .0 .sources (s .k) (pre .1) .source-in))
 
+state-word-requires : tie.Need-state-word-requires Inv-loop μ-loop
+state-word-requires c κs =
+    (chart-readable (c .before .before .before .before .pre .0), c .before .loop .inv .state, omega arith)
+
 is-above-all-requires : tie.Need-is-above-all-requires Inv-loop μ-loop
 is-above-all-requires c κs =
-    let s = c .before .before .before .before .before .args in
-    let rules = c .before .before .before .before .before .pre .0 in
+    let s = c .before .before .before .before .before in
+    let rules = s .pre .0 in
     let l = c .before .before .loop in
-    let up = parent-smaller (view (now (s .t))) (l .o) (rules .places (l .o) (l .inv .state)) (λ z. omega arith) in
-    (omega arith, omega arith)
+    let up = parent-smaller (view (now (s .args .t))) (l .o) (rules .places (l .o) (l .inv .state)) (λ z. omega arith) in
+    let source = rules .sources (s .args .k) (s .pre .1) .source-in in
+    let above = above-source (view (now (s .args .t))) (s .args .k) (l .o) (l .inv) up source in
+    (rules, s .pre .1, omega (arith, c .state-word .ensures .0, l .inv .state), rw (c .state-word .ensures .0) above)
 
 returns : tie.Need-returns Inv-loop μ-loop
 returns c =
@@ -71,5 +77,5 @@ pub scope-of-spec : {M : Type 1} → statement M
 scope-of-spec =
     tie.close
     (tie.spec
-    Inv-loop μ-loop (λ c κs. search needs) loop-holds (λ c κs. search needs) is-above-all-requires returns
+    Inv-loop μ-loop (λ c κs. search chart-needs) loop-holds state-word-requires is-above-all-requires returns
     loop-less loop-again returns-2)

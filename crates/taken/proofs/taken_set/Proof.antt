@@ -8,8 +8,9 @@ use lib.ListN.{length, getD, length-set}
 use denote.Ref.{now}
 use Rattle.words.specs.Loops.{tab}
 use Rattle.chart.specs.View.{view}
+use Rattle.chart_rules.proofs.Readable.{chart-needs}
 use Rattle.states.specs.Cells.{cells}
-use Rattle.states.proofs.Cells.{Filled, filled-none, filled-next}
+use Rattle.states.proofs.Cells.{Filled, filled-none, filled-next, not-yet}
 use Rattle.meaning.specs.Taken.{takenAt, takens}
 use Rattle.taken.proofs.Cells.{same-cells}
 use Rattle.taken.proofs.taken_set.Statement.{statement}
@@ -32,6 +33,14 @@ loop-holds c =
 is-taken-at-requires : tie.Need-is-taken-at-requires Inv-loop μ-loop
 is-taken-at-requires c κs = (c .before .before .before .before .before .before .pre, omega arith)
 
+grown-requires : tie.Need-grown-requires Inv-loop μ-loop
+grown-requires c κs =
+    let s = c .before .before .before .before .before .before .before in
+    let l = c .before .before .loop in
+    let few = s .pre .counts .transitions .1 in
+    let g = takenAt (view (now (s .args .t))) (s .args .e) (cells (s .args .acts)) (now (s .args .vars)) in
+    (omega (arith, c .before .before .before .before .head .ensures .0), not-yet g (l .k) (cells (l .taken)) (l .inv .2))
+
 loop-again : tie.Need-loop-again Inv-loop μ-loop
 loop-again c =
     let s = c .before .before .before .before .before .before .before .before .args in
@@ -44,7 +53,7 @@ loop-again c =
     (l .inv .2) (this .ensures) in
     let room : l .k < length (cells (l .taken)) = omega arith in
     let next = filled-next g (l .k) (cells (l .taken)) (this .result) room told (l .inv .2) in
-    (omega arith, rw (c .with .ensures, length-set) (l .inv .1), rw (c .with .ensures) next)
+    (omega arith, rw (c .grown .ensures, length-set) (l .inv .1), rw (c .grown .ensures) next)
 
 returns : tie.Need-returns Inv-loop μ-loop
 unfolding takens
@@ -59,5 +68,5 @@ pub taken-set-spec : {M : Type 1} → statement M
 taken-set-spec =
     tie.close
     (tie.spec
-    Inv-loop μ-loop (λ c κs. search needs) (λ c κs. search needs) loop-holds is-taken-at-requires
-    (λ c κs. search needs) (λ c. search needs) (λ c. search needs) loop-again returns)
+    Inv-loop μ-loop (λ c κs. search chart-needs) (λ c κs. search needs) loop-holds is-taken-at-requires
+    grown-requires (λ c. search needs) (λ c. search needs) loop-again returns)
