@@ -1,17 +1,19 @@
 // The active states of a chart that is accepted, from its state words; and what is below a state.
 ghost use mathlib.Core.Path.{_≡_};
-ghost use mathlib.Core.Bool.{false, cond};
-ghost use Prim.Native.Nat.{ℕ, suc, _<_, _≤_};
+ghost use mathlib.Core.Bool.{false, _||_, cond};
+ghost use Prim.Native.Nat.{ℕ, suc, _+_, _<_, _≤_};
 ghost use lib.ListN.{length, getD};
+ghost use lib.Dec.{eqb};
 ghost use Rattle.chart.specs.View.{view};
 ghost use Rattle.chart.specs.Readable.{Readable};
 ghost use Rattle.chart_rules.specs.Rules.{ChartRules};
 ghost use Rattle.states.specs.Cells.{cells};
-ghost use Rattle.meaning.specs.Active.{isOr, child, activeAt, active};
+ghost use Rattle.meaning.specs.Active.{isOr, child, active};
 ghost use Rattle.meaning.specs.Scope.{beneath};
 ghost use Rattle.meaning.specs.Entered.{keepsWord};
 ghost use Rattle.meaning.specs.State.{orStates};
 ghost use Rattle.active.specs.Ranks.{Ranks};
+ghost use Rattle.active.specs.Shown.{withChild, Shown};
 use states::StateSet;
 
 // Whether state j is below a.
@@ -60,35 +62,55 @@ pub fn child_of(t: &[u16], ranks: &[u16], current: &[u16], o: usize) -> usize
     words::number(current, words::number(ranks, o))
 }
 
-// Whether state j is active, where `acts` has those before it.
-fn is_active_at(t: &[u16], ranks: &[u16], current: &[u16], acts: StateSet, j: usize) -> bool
-    requires { ⌜ ChartRules (now t) × Ranks (view (now t)) (now ranks) × (j < view (now t) .states) ⌝ }
-    ensures { λ r. ⌜ r ≡ activeAt (view (now (t .entry))) (now (current .entry)) j (cells acts) ⌝ }
+// Whether o is the root, or its parent is in `acts`.
+fn is_up(t: &[u16], acts: StateSet, o: usize) -> bool
+    requires { ⌜ ChartRules (now t) × (o < view (now t) .states) ⌝ }
+    ensures { λ r. ⌜ r ≡ (eqb o 0 || getD (cells acts) (view (now (t .entry)) .parent o) false) ⌝ }
 {
-    if j == 0 {
+    if o == 0 {
         return true;
     }
-    let up = chart::state_word(t, j, chart::PARENT);
-    if !states::has_in(acts, up) {
-        return false;
-    }
-    if chart::is_and(t, up) {
-        return true;
-    }
-    child_of(t, ranks, current, up) == j
+    states::has_in(acts, chart::state_word(t, o, chart::PARENT))
 }
 
-// The active states.
+// The set with or-state o, and with its current child where its word is a child of it.
+fn with_child(t: &[u16], ranks: &[u16], current: &[u16], acts: StateSet, o: usize) -> StateSet
+    requires { ⌜ ChartRules (now t) × Ranks (view (now t)) (now ranks) × (o < view (now t) .states) ⌝ }
+    ensures { λ r. ⌜ cells r ≡ withChild (view (now (t .entry))) (now (current .entry)) o (cells acts) ⌝ }
+{
+    let with = states::add(acts, o);
+    let w = child_of(t, ranks, current, o);
+    if chart::is_child(t, o, w) {
+        return states::add(with, w);
+    }
+    with
+}
+
+// The set, which shows the active states as far as or-state o, as far as the one behind it.
+pub fn show(t: &[u16], ranks: &[u16], current: &[u16], acts: StateSet, o: usize) -> StateSet
+    requires { ⌜ ChartRules (now t) × Ranks (view (now t)) (now ranks) × (o < view (now t) .states) × Shown (view (now t)) (now current) o (cells acts) ⌝ }
+    ensures { λ r. ⌜ Shown (view (now (t .entry))) (now (current .entry)) (o + 1) (cells r) ⌝ }
+{
+    if chart::is_and(t, o) {
+        return acts;
+    }
+    if !is_up(t, acts, o) {
+        return acts;
+    }
+    with_child(t, ranks, current, acts, o)
+}
+
+// The active states: an or-state decides on itself and on its children.
 pub fn active_set(t: &[u16], ranks: &[u16], current: &[u16]) -> StateSet
     requires { ⌜ ChartRules (now t) × Ranks (view (now t)) (now ranks) ⌝ }
     ensures { λ r. ⌜ ((j : ℕ) → getD (cells r) j false ≡ active (view (now (t .entry))) (now (current .entry)) j) ⌝ }
 {
     let n = chart::head(t, chart::STATES);
     let mut acts = states::none();
-    let mut j = 0;
-    while j < n {
-        acts = states::grown(acts, j, is_active_at(t, ranks, current, acts, j));
-        j += 1;
+    let mut o = 0;
+    while o < n {
+        acts = show(t, ranks, current, acts, o);
+        o += 1;
     }
     acts
 }

@@ -1,14 +1,13 @@
--- What an entered state's cell is made from: one cell; and an and-state's parent is a state. Assumes nothing.
-use Prim.Native.Nat.{ℕ, _<_}
-use mathlib.Core.Path.{_≡_, refl, ap}
-use mathlib.Core.Bool.{Bool, true, false}
+-- An and-state's parent is a state; and where a transition's targets are counted. Assumes nothing.
+use Prim.Native.Nat.{ℕ, _+_, _<_}
+use mathlib.Core.Path.{_≡_, ap}
+use mathlib.Core.Bool.{true}
 use mathlib.Core.List.{List}
-use lib.ListN.{getD}
+use native.Mathlib.Omega.{arith}
 use lib.Dec.{eqb}
 use Rattle.words.proofs.Tests.{clash}
-use Rattle.chart.specs.View.{Chart, isAnd}
+use Rattle.chart.specs.View.{Chart, at, transitionAt, view, isAnd}
 use Rattle.chart_rules.specs.Rules.{GoodPlace, root, or-state, and-state}
-use Rattle.meaning.specs.Entered.{reached, enteredAt}
 
 module _ (c : Chart) where
   -- the root is no and-state
@@ -17,8 +16,6 @@ module _ (c : Chart) where
   and-parent j (or-state _ _ l _) e = l
   and-parent j (and-state _ _ l _) e = l
 
-  pub same-entered : (words : List ℕ) (t j : ℕ) (a b : List Bool)
-      → getD a (c .parent (c .parent j)) false ≡ getD b (c .parent (c .parent j)) false
-      → enteredAt c words t j a ≡ enteredAt c words t j b
-  unfolding enteredAt reached
-  same-entered words t j a b e = rw e refl
+-- a span's count is the word behind its first
+pub count-word : (t : List ℕ) (k : ℕ) → at t (transitionAt t k + 7) ≡ view t .aims k .count
+count-word t k = let e : transitionAt t k + 7 ≡ transitionAt t k + 6 + 1 = omega arith in ap (at t) e

@@ -1,17 +1,21 @@
 // The states that a transition enters. Every function is for an accepted chart.
 ghost use mathlib.Core.Path.{_≡_};
-ghost use mathlib.Core.Bool.{false};
-ghost use Prim.Native.Nat.{ℕ, _<_};
+ghost use mathlib.Core.Bool.{true, false, not, _&&_, _||_};
+ghost use Prim.Native.Nat.{ℕ, _+_, _<_};
 ghost use lib.ListN.{getD};
+ghost use lib.Dec.{eqb};
 ghost use Rattle.words.specs.Loops.{any};
-ghost use Rattle.chart.specs.View.{view};
+ghost use Rattle.chart.specs.View.{view, childOf?};
 ghost use Rattle.chart.specs.Readable.{Readable};
+ghost use Rattle.chart.specs.Tree.{within};
 ghost use Rattle.chart_rules.specs.Rules.{ChartRules};
 ghost use Rattle.states.specs.Cells.{cells};
 ghost use Rattle.meaning.specs.Scope.{scope, targetsOf};
-ghost use Rattle.meaning.specs.Entered.{reached, aimed, leads, chosen, enteredAt, entereds};
+ghost use Rattle.meaning.specs.Active.{isOr};
+ghost use Rattle.meaning.specs.Entered.{reached, aimed, leads, chosen, entereds};
 ghost use Rattle.active.specs.Ranks.{Ranks};
 ghost use Rattle.entered.specs.Under.{under};
+ghost use Rattle.entered.specs.Came.{Came};
 use states::StateSet;
 
 // Whether state j is below a or, where `itself` says so, a.
@@ -58,19 +62,72 @@ pub fn does_lead(t: &[u16], k: usize, j: usize) -> bool
     is_some_under(t, true, k, j)
 }
 
-// Whether j is the child that transition k chooses in the or-state above it.
-fn is_chosen(t: &[u16], ranks: &[u16], current: &[u16], k: usize, j: usize) -> bool
-    requires { ⌜ ChartRules (now t) × (k < view (now t) .transitions) × (j < view (now t) .states) × Ranks (view (now t)) (now ranks) × (view (now t) .parent j < view (now t) .states) ⌝ }
-    ensures { λ r. ⌜ r ≡ chosen (view (now (t .entry))) (now (current .entry)) k j ⌝ }
+// The state at or above j whose parent has no greater number than o; j itself where it is not greater.
+fn child_toward(t: &[u16], o: usize, j: usize) -> usize
+    requires { ⌜ ChartRules (now t) × (o < view (now t) .states) × (j < view (now t) .states) ⌝ }
+    ensures state { λ r. ⌜ r < view (now (t .entry)) .states ⌝ }
+    ensures toward { λ r. ⌜ ((y : ℕ) → y < view (now (t .entry)) .states → view (now (t .entry)) .parent y ≡ o → within (view (now (t .entry))) y j ≡ eqb y r) ⌝ }
 {
-    let o = chart::state_word(t, j, chart::PARENT);
-    if is_aimed(t, k, o) {
-        return does_lead(t, k, j);
+    let mut x = j;
+    while o < x {
+        let up = chart::state_word(t, x, chart::PARENT);
+        if up <= o {
+            return x;
+        }
+        x = up;
+    }
+    x
+}
+
+// The set with state w, where it is a child of o.
+fn with_child(t: &[u16], o: usize, w: usize, entered: StateSet) -> StateSet
+    requires { ⌜ ChartRules (now t) ⌝ }
+    ensures more { λ r. ⌜ ((j : ℕ) → getD (cells r) j false ≡ (getD (cells entered) j false || (childOf? (view (now (t .entry))) o j && eqb j w))) ⌝ }
+    ensures none { λ r. ⌜ (childOf? (view (now (t .entry))) o w ≡ false → r ≡ entered) ⌝ }
+{
+    if chart::is_child(t, o, w) {
+        return states::add(entered, w);
+    }
+    entered
+}
+
+// The set with every child of o that is a target of transition k or above one.
+fn with_led(t: &[u16], k: usize, o: usize, entered: StateSet) -> StateSet
+    requires { ⌜ ChartRules (now t) × (k < view (now t) .transitions) × (o < view (now t) .states) ⌝ }
+    ensures more { λ r. ⌜ ((j : ℕ) → getD (cells r) j false ≡ (getD (cells entered) j false || (childOf? (view (now (t .entry))) o j && leads (view (now (t .entry))) k j))) ⌝ }
+    ensures none { λ r. ⌜ (aimed (view (now (t .entry))) k o ≡ false → r ≡ entered) ⌝ }
+{
+    let mut set = entered;
+    let mut i = chart::transition_word(t, k, chart::AIMS);
+    let mut left = chart::transition_word(t, k, chart::AIMS + 1);
+    while 0 < left {
+        set = with_child(t, o, child_toward(t, o, chart::target_word(t, i)), set);
+        i += 1;
+        left -= 1;
+    }
+    set
+}
+
+// The set, which has no child of or-state o, with the one that transition k chooses.
+fn with_chosen(
+    t: &[u16],
+    ranks: &[u16],
+    current: &[u16],
+    k: usize,
+    o: usize,
+    entered: StateSet,
+) -> StateSet
+    requires { ⌜ ChartRules (now t) × (k < view (now t) .transitions) × (o < view (now t) .states) × Ranks (view (now t)) (now ranks) × ((j : ℕ) → childOf? (view (now t)) o j ≡ true → getD (cells entered) j false ≡ false) ⌝ }
+    ensures { λ r. ⌜ ((j : ℕ) → getD (cells r) j false ≡ (getD (cells entered) j false || (childOf? (view (now (t .entry))) o j && chosen (view (now (t .entry))) (now (current .entry)) k j))) ⌝ }
+{
+    let led = with_led(t, k, o, entered);
+    if !states::same(led, entered) {
+        return led;
     }
     if active::keeps_word(t, o) {
-        return active::child_of(t, ranks, current, o) == j;
+        return with_child(t, o, active::child_of(t, ranks, current, o), entered);
     }
-    chart::state_word(t, o, chart::INITIAL) == j
+    with_child(t, o, chart::state_word(t, o, chart::INITIAL), entered)
 }
 
 // Whether the or-state above j has a child entered: it is `top`, the scope, or below a state of `entered`.
@@ -88,43 +145,53 @@ pub fn is_reached(t: &[u16], top: usize, j: usize, entered: StateSet) -> bool
     states::has_in(entered, chart::state_word(t, o, chart::PARENT))
 }
 
-// Whether state j is entered, where `entered` has those before it.
-fn is_entered_at(
+// Whether a child of o is entered: o is an or-state, and `top`, the scope, or below a state of `entered`.
+fn is_entering(t: &[u16], top: usize, o: usize, entered: StateSet) -> bool
+    requires { ⌜ ChartRules (now t) × (o < view (now t) .states) ⌝ }
+    ensures { λ r. ⌜ r ≡ (isOr (view (now (t .entry))) o && (eqb o top || (not (eqb o 0) && getD (cells entered) (view (now (t .entry)) .parent o) false))) ⌝ }
+{
+    if chart::is_and(t, o) {
+        return false;
+    }
+    if o == top {
+        return true;
+    }
+    if o == 0 {
+        return false;
+    }
+    states::has_in(entered, chart::state_word(t, o, chart::PARENT))
+}
+
+// The set, which has the states that transition k enters in the or-states before o, with those in o.
+fn enter_in(
     t: &[u16],
     ranks: &[u16],
     current: &[u16],
     k: usize,
     top: usize,
-    j: usize,
+    o: usize,
     entered: StateSet,
-) -> bool
-    requires { ⌜ ChartRules (now t) × (k < view (now t) .transitions) × (j < view (now t) .states) × Ranks (view (now t)) (now ranks) × (top ≡ scope (view (now t)) k) ⌝ }
-    ensures { λ r. ⌜ r ≡ enteredAt (view (now (t .entry))) (now (current .entry)) k j (cells entered) ⌝ }
+) -> StateSet
+    requires { ⌜ ChartRules (now t) × (k < view (now t) .transitions) × (o < view (now t) .states) × Ranks (view (now t)) (now ranks) × (top ≡ scope (view (now t)) k) × Came (view (now t)) (now current) k o (cells entered) ⌝ }
+    ensures { λ r. ⌜ Came (view (now (t .entry))) (now (current .entry)) k (o + 1) (cells r) ⌝ }
 {
-    if !chart::is_and(t, j) {
-        return false;
+    if is_entering(t, top, o, entered) {
+        return with_chosen(t, ranks, current, k, o, entered);
     }
-    if !is_reached(t, top, j, entered) {
-        return false;
-    }
-    is_chosen(t, ranks, current, k, j)
+    entered
 }
 
-// The states that transition k enters, whose scope is `top`.
+// The states that transition k enters, whose scope is `top`: or-state by or-state, the child that it chooses.
 pub fn entered_set(t: &[u16], ranks: &[u16], current: &[u16], k: usize, top: usize) -> StateSet
     requires { ⌜ ChartRules (now t) × (k < view (now t) .transitions) × Ranks (view (now t)) (now ranks) × (top ≡ scope (view (now t)) k) ⌝ }
     ensures { λ r. ⌜ ((j : ℕ) → getD (cells r) j false ≡ getD (entereds (view (now (t .entry))) (now (current .entry)) k) j false) ⌝ }
 {
     let n = chart::head(t, chart::STATES);
     let mut entered = states::none();
-    let mut j = 0;
-    while j < n {
-        entered = states::grown(
-            entered,
-            j,
-            is_entered_at(t, ranks, current, k, top, j, entered),
-        );
-        j += 1;
+    let mut o = 0;
+    while o < n {
+        entered = enter_in(t, ranks, current, k, top, o, entered);
+        o += 1;
     }
     entered
 }

@@ -9,11 +9,10 @@ use lib.ListN.{length, getD, drop, length-append, length-drop}
 use lib.Seq.{drop-cons, set-at, append-snoc}
 use Rattle.words.specs.Loops.{joinUp, rank, when}
 use Rattle.words.proofs.Tests.{by-bool}
-use Rattle.words.proofs.Lists.{joinUp-cong}
 use Rattle.words.proofs.Ranks.{rank-lt, rank-length}
 use Rattle.chart.specs.View.{Chart}
-use Rattle.meaning.specs.Active.{isOr, active}
-use Rattle.meaning.specs.Steps.{restWord, rest}
+use Rattle.meaning.specs.Active.{actives, active}
+use Rattle.meaning.specs.Steps.{restWord}
 use Rattle.lent.specs.Laid.{laid}
 
 module _ (p : ℕ → Bool) (f : ℕ → ℕ) (old : List ℕ) where
@@ -60,8 +59,8 @@ module _ (p : ℕ → Bool) (f : ℕ → ℕ) (old : List ℕ) where
       → state ≡ joinUp (λ k. when (p k) (f k)) n ++ drop (rank p n) old
   lay-end n o at state e l = rw (← e) (l .words)
 
--- what is handed back, where a set has the cells of the active states
-pub rest-laid : (c : Chart) (words : List ℕ) (acts : List Bool) → ((j : ℕ) → getD acts j false ≡ active c words j)
-    → joinUp (λ o. when (isOr c o) (restWord c words acts o)) (c .states) ≡ rest c words
-unfolding rest restWord active
-rest-laid c words acts h = joinUp-cong (c .states) (λ o l. rw (h o) refl)
+-- a word that is handed back asks for one cell: its or-state's
+pub rest-cell : (c : Chart) (words : List ℕ) (acts : List Bool) (o : ℕ) → getD acts o false ≡ active c words o
+    → restWord c words acts o ≡ restWord c words (actives c words) o
+unfolding restWord active
+rest-cell c words acts o e = rw e refl

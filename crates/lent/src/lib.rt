@@ -2,7 +2,7 @@
 ghost use mathlib.Core.Path.{_≡_};
 ghost use mathlib.Core.Bool.{false};
 ghost use mathlib.Core.List.{_++_};
-ghost use Prim.Native.Nat.{ℕ, _<_, _≤_};
+ghost use Prim.Native.Nat.{_<_, _≤_};
 ghost use lib.ListN.{length, getD, drop};
 ghost use Rattle.words.specs.Loops.{allBelow};
 ghost use Rattle.chart.specs.View.{view};
@@ -18,7 +18,7 @@ use states::StateSet;
 
 // Whether or-state o's word is good in `words`, whose active states are `acts`.
 fn good_word(t: &[u16], ranks: &[u16], current: &[u16], acts: StateSet, o: usize) -> bool
-    requires { ⌜ ChartRules (now t) × Ranks (view (now t)) (now ranks) × (o < view (now t) .states) × ((j : ℕ) → getD (cells acts) j false ≡ active (view (now t)) (now current) j) ⌝ }
+    requires { ⌜ ChartRules (now t) × Ranks (view (now t)) (now ranks) × (o < view (now t) .states) × (getD (cells acts) o false ≡ active (view (now t)) (now current) o) ⌝ }
     ensures { λ r. ⌜ r ≡ goodWord? (view (now (t .entry))) (now (current .entry)) o ⌝ }
 {
     if chart::is_and(t, o) {
@@ -39,10 +39,11 @@ fn good_words(t: &[u16], ranks: &[u16], current: &[u16]) -> bool
     requires { ⌜ ChartRules (now t) × Ranks (view (now t)) (now ranks) ⌝ }
     ensures { λ r. ⌜ r ≡ allBelow (goodWord? (view (now (t .entry))) (now (current .entry))) (view (now (t .entry)) .states) ⌝ }
 {
-    let acts = active::active_set(t, ranks, current);
     let n = chart::head(t, chart::STATES);
+    let mut acts = states::none();
     let mut o = 0;
     while o < n {
+        acts = active::show(t, ranks, current, acts, o);
         if !good_word(t, ranks, current, acts, o) {
             return false;
         }
@@ -93,11 +94,12 @@ pub fn lay_rest(t: &[u16], ranks: &[u16], current: &[u16], state: &mut [u16])
     requires { ⌜ ChartRules (now t) × Ranks (view (now t)) (now ranks) × (orStates (view (now t)) ≤ length (now state)) ⌝ }
     ensures { λ r. ⌜ now (state .exit) ≡ rest (view (now (t .entry))) (now (current .entry)) ++ drop (orStates (view (now (t .entry)))) (now (state .entry)) ⌝ }
 {
-    let acts = active::active_set(t, ranks, current);
     let n = chart::head(t, chart::STATES);
+    let mut acts = states::none();
     let mut at = 0;
     let mut o = 0;
     while o < n {
+        acts = active::show(t, ranks, current, acts, o);
         at = lay(t, o, rest_word(t, ranks, current, acts, o), at, state);
         o += 1;
     }

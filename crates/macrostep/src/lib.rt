@@ -30,7 +30,7 @@ const EVENTS: usize = 4;
 const STATES: usize = 48;
 
 // How many words of the outputs are kept while a macrostep is tried.
-const KEPT: usize = 12;
+const KEPT: usize = 8;
 
 // A microstep of a chart. `own` has the places of its or-states' words, and behind them space for the words at its start.
 fn step_chart(
@@ -243,7 +243,7 @@ fn run_on(
 
 // The smaller of the outputs' words and of those that are kept of them.
 fn first_of(lent: usize) -> usize
-    ensures { λ r. ⌜ (r ≤ lent) × (r ≤ 12) ⌝ }
+    ensures { λ r. ⌜ (r ≤ lent) × (r ≤ 8) ⌝ }
 {
     if lent < KEPT { lent } else { KEPT }
 }

@@ -3,7 +3,7 @@
 ghost use mathlib.Core.Path.{_≡_};
 ghost use mathlib.Core.Bool.{false, cond};
 ghost use mathlib.Core.List.{List, []};
-ghost use Prim.Native.Nat.{ℕ, _<_, _≤_};
+ghost use Prim.Native.Nat.{ℕ, _<_};
 ghost use lib.ListN.{getD};
 ghost use Rattle.words.specs.Loops.{joinUp};
 ghost use Rattle.effects.specs.Work.{going, doStep, doSteps};

@@ -1,4 +1,4 @@
--- A set that is filled number by number has the cells of a `tab`. Assumes nothing.
+-- A set shows 48 cells; one that is filled number by number has the cells of a `tab`. Assumes nothing.
 use Prim.Native.Nat.{ℕ, zero, suc, _+_, _<_}
 use mathlib.Core.Path.{_≡_, refl, sym, _∙_}
 use mathlib.Core.Bool.{Bool, false}
@@ -9,7 +9,15 @@ use lib.ListN.{length, getD, set, length-set, List·getD-eq-default}
 use lib.Seq.{getD-set-same, getD-set-other}
 use Rattle.words.specs.Loops.{tab, many}
 use Rattle.words.proofs.Loops.{tab-length, tab-next, tab-off}
-use Rattle.states.specs.Cells.{noCells}
+use Rattle.words.proofs.Many.{many-length}
+use Rattle.marks.specs.Bits.{bitAt}
+use Rattle.states.specs.declared.StateSet.{StateSet}
+use Rattle.states.specs.Cells.{cells, noCells}
+
+-- a set shows 48 cells
+pub cells-length : (s : StateSet) → length (cells s) ≡ 48
+unfolding cells
+cells-length s = many-length (bitAt (s .bits)) 0 48
 
 -- s has the cells that g makes, as far as k
 abbrev pub Filled : (ℕ → List Bool → Bool) → ℕ → List Bool → Type 0

@@ -1,7 +1,7 @@
 // A set of numbers below 48: the states that are active or entered, the transitions that are taken. It is kept as the bits of
 // one 64-bit number, number k in bit k; that is known here alone. specs/Cells.antt says what a set shows.
 ghost use mathlib.Core.Path.{_≡_};
-ghost use mathlib.Core.Bool.{false};
+ghost use mathlib.Core.Bool.{true, false};
 ghost use Prim.Native.Nat.{_<_};
 ghost use lib.ListN.{getD, set};
 ghost use Rattle.marks.specs.Bits.{bitAt, setBit};
@@ -61,15 +61,23 @@ pub fn has(s: StateSet, k: usize) -> bool
     false
 }
 
+// The set with k in it, which is below 48.
+pub fn add(s: StateSet, k: usize) -> StateSet
+    requires { ⌜ k < 48 ⌝ }
+    ensures { λ r. ⌜ cells r ≡ set (cells s) k true ⌝ }
+{
+    StateSet {
+        bits: with_bit(s.bits, k),
+    }
+}
+
 // The set, which has not k, with k in it where b says so.
 pub fn grown(s: StateSet, k: usize, b: bool) -> StateSet
     requires { ⌜ (k < 48) × (getD (cells s) k false ≡ false) ⌝ }
     ensures { λ r. ⌜ cells r ≡ set (cells s) k b ⌝ }
 {
     if b {
-        return StateSet {
-            bits: with_bit(s.bits, k),
-        };
+        return add(s, k);
     }
     s
 }
@@ -89,4 +97,12 @@ pub fn with(s: StateSet, k: usize, b: bool) -> StateSet
     StateSet {
         bits: without_bit(s.bits, k),
     }
+}
+
+// Whether two sets are the same.
+pub fn same(a: StateSet, b: StateSet) -> bool
+    ensures alike { λ r. ⌜ (r ≡ true → cells a ≡ cells b) ⌝ }
+    ensures other { λ r. ⌜ (a ≡ b → r ≡ true) ⌝ }
+{
+    a.bits == b.bits
 }

@@ -11,7 +11,7 @@ use lib.ListN.{length, drop}
 use lib.Seq.{drop-cons}
 use Rattle.words.proofs.Tests.{ltb-lt, ltb-yes, ltb-ge, ltb-no, clash, last-or}
 use Rattle.words.proofs.Loops.{Lowest, lowest}
-use Rattle.table.specs.Check.{Rule, noRule, ruleAt, lowestBad, answer, Kept, KeptBefore, LowestBroken, Judged, all-kept, lowest-broken}
+use Rattle.table.specs.Check.{Rule, noRule, ruleAt, lowestBad, answer, Kept, KeptBefore, Judged, all-kept, lowest-broken}
 
 -- ---- for the loop that goes through the rules
 module _ (first : ℕ) (rs : List Rule) (k : ℕ) where

@@ -1,9 +1,7 @@
 // What chart tables and flat tables have in common: signal and trigger numbers, items, spans, and what a call can say.
 // It knows words, and neither of the two tables. specs/Lib.antt is the door to the definitions.
 ghost use mathlib.Core.Path.{_≡_};
-ghost use mathlib.Core.Bool.{Bool};
-ghost use Prim.Native.Nat.{ℕ, _+_, _<_, _≤_};
-ghost use lib.Dec.{ltb, leb};
+ghost use Prim.Native.Nat.{_+_, _<_};
 ghost use lib.ListN.{length, getD};
 ghost use Rattle.table.specs.Numbers.{triggerOf};
 ghost use Rattle.table.specs.Triple.{tripleAt};

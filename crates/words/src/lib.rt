@@ -4,7 +4,6 @@ ghost use mathlib.Core.Path.{_≡_};
 ghost use mathlib.Core.Bool.{_&&_};
 ghost use Prim.Native.Nat.{_<_};
 ghost use lib.ListN.{length, getD, set};
-ghost use lib.Signed.{ltZ};
 ghost use mir.Syntax.{w16};
 ghost use mir.Val.{SFits, toZ, ofZ};
 ghost use Rattle.words.specs.Signed.{wrapAdd, satAdd, clip, below};

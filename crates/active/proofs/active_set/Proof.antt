@@ -1,72 +1,49 @@
--- `active::active_set` meets its contract: the set has the cells of the states passed. Assumes nothing.
+-- `active::active_set` meets its contract: the set shows the active states as far as the or-states passed, and in the end all.
+-- Assumes nothing.
 use borrow.Author.Needs.{needs}
-use Prim.Native.Nat.{ℕ, _-_, _≤_}
-use mathlib.Core.Path.{_≡_, ap, _∙_}
-use mathlib.Core.Bool.{false}
+use Prim.Native.Nat.{_-_, _≤_}
+use mathlib.Core.Path.{_≡_}
 use native.Mathlib.Omega.{arith}
 use denote.Ref.{now}
-use lib.ListN.{getD}
-use Rattle.words.specs.Loops.{tab}
 use Rattle.chart.specs.View.{view}
 use Rattle.chart_rules.proofs.Readable.{chart-needs}
 use Rattle.states.specs.Cells.{cells}
-use Rattle.states.proofs.Cells.{Growing, growing-none, growing-next, not-yet}
-use Rattle.meaning.specs.Active.{activeAt, actives, active}
-use Rattle.active.proofs.Active.{same-active}
+use Rattle.meaning.proofs.Tree.{tree}
+use Rattle.active.specs.Shown.{Shown}
+use Rattle.active.proofs.Shown.{shown-none, shown-end}
 use Rattle.active.proofs.active_set.Statement.{statement}
 use Rattle.active.proofs.active_set.Tie as tie
 
 abbrev Inv-loop : tie.InvT-loop
-Inv-loop t ranks current n acts₀ j₀ acts j =
-    (j ≤ n) × Growing (activeAt (view t) current) j (cells acts)
+Inv-loop t ranks current n acts₀ o₀ acts o = (o ≤ n) × Shown (view t) current o (cells acts)
 
 abbrev μ-loop : tie.MeasureT-loop
-μ-loop t ranks current n acts₀ j₀ acts j = n - j
+μ-loop t ranks current n acts₀ o₀ acts o = n - o
 
 loop-holds : tie.Need-loop-holds Inv-loop μ-loop
 loop-holds c =
     let s = c .before .before .before .before .before .args in
-    (omega arith, growing-none (activeAt (view (now (s .t))) (now (s .current))) (c .none .ensures))
+    (omega arith, rw (c .none .ensures) (shown-none (view (now (s .t))) (now (s .current))))
 
-is-active-at-requires : tie.Need-is-active-at-requires Inv-loop μ-loop
-is-active-at-requires c κs =
+show-requires : tie.Need-show-requires Inv-loop μ-loop
+show-requires c κs =
     let pre = c .before .before .before .before .before .before .before .pre in
-    (pre .0, pre .1, omega (arith, c .before .before .before .head .ensures .0))
-
-grown-requires : tie.Need-grown-requires Inv-loop μ-loop
-grown-requires c κs =
-    let start = c .before .before .before .before .before .before .before .before in
-    let l = c .before .before .loop in
-    let few = start .pre .0 .counts .states .1 in
-    let g = activeAt (view (now (start .args .t))) (now (start .args .current)) in
-    (omega (arith, c .before .before .before .before .head .ensures .0), not-yet g (l .j) (cells (l .acts)) (l .inv .1 .made))
+    (pre .0, pre .1, omega (arith, c .before .before .before .head .ensures .0), c .before .loop .inv .1)
 
 loop-again : tie.Need-loop-again Inv-loop μ-loop
-loop-again c =
-    let start = c .before .before .before .before .before .before .before .before .before in
-    let l = c .before .before .before .loop in
-    let v = view (now (start .args .t)) in
-    let words = now (start .args .current) in
-    let g = activeAt v words in
-    let set = cells (l .acts) in
-    let grown = l .inv .1 in
-    let same = same-active v words (l .j) set (tab g (l .j)) (grown .made (v .parent (l .j))) in
-    let n = c .before .before .before .before .before .head .ensures .0 in
-    let few = start .pre .0 .counts .states .1 in
-    let told = c .before .is-active-at .ensures in
-    (omega arith, growing-next g (l .j) set (omega arith) told same (c .grown .ensures) grown)
+loop-again c = (omega arith, c .show .ensures)
 
 returns : tie.Need-returns Inv-loop μ-loop
-unfolding active actives
 returns c =
-    let s = c .before .before .before .before .before .before .before .args in
-    let v = view (now (s .t)) in
-    let e : c .before .loop .j ≡ v .states = omega (arith, c .before .before .before .head .ensures .0) in
-    λ j. c .before .loop .inv .1 .made j ∙ ap (λ (n : ℕ). getD (tab (activeAt v (now (s .current))) n) j false) e
+    let start = c .before .before .before .before .before .before .before in
+    let s = start .args in
+    let l = c .before .loop in
+    let e : l .o ≡ view (now (s .t)) .states = omega (arith, c .before .before .before .head .ensures .0) in
+    shown-end (tree (start .pre .0)) (now (s .current)) (l .o) (cells (l .acts)) e (l .inv .1)
 
 pub active-set-spec : {M : Type 1} → statement M
 active-set-spec =
     tie.close
     (tie.spec
-    Inv-loop μ-loop (λ c κs. search chart-needs) (λ c κs. search needs) loop-holds is-active-at-requires
-    grown-requires (λ c. omega arith) (λ c. omega arith) loop-again returns)
+    Inv-loop μ-loop (λ c κs. search chart-needs) (λ c κs. search needs) loop-holds show-requires
+    (λ c. omega arith) (λ c. omega arith) loop-again returns)

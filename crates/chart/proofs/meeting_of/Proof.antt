@@ -1,7 +1,7 @@
 -- `chart::meeting_of` meets its contract: what a and b meet in, x and y meet in. Each turn the larger of the two gives way
 -- to its parent, so their sum falls. Assumes nothing.
 use borrow.Author.Needs.{needs}
-use Prim.Native.Nat.{ℕ, _+_, _<_, _≤_}
+use Prim.Native.Nat.{_+_, _<_}
 use mathlib.Core.Path.{_≡_, refl, sym, ap, _∙_}
 use denote.Ref.{now}
 use native.Mathlib.Omega.{arith}

@@ -1,17 +1,17 @@
 -- `entered::is_some_under` meets its contract: what is asked of all targets is asked of those left. Assumes nothing.
 use borrow.Author.Needs.{needs}
 use Prim.Native.Nat.{ℕ, _+_, _≤_}
-use mathlib.Core.Path.{_≡_, sym, ap, ap₂, _∙_}
+use mathlib.Core.Path.{_≡_, sym, ap₂, _∙_}
 use mathlib.Core.Bool.{true, false}
-use mathlib.Core.List.{List}
 use native.Mathlib.Omega.{arith}
 use denote.Ref.{now}
 use Rattle.words.specs.Loops.{many, any}
 use Rattle.words.proofs.Many.{any-here, any-later, any-end}
-use Rattle.chart.specs.View.{at, transitionAt, view}
+use Rattle.chart.specs.View.{view}
 use Rattle.chart_rules.proofs.Readable.{chart-readable, chart-needs}
 use Rattle.meaning.specs.Scope.{targetsOf}
 use Rattle.entered.specs.Under.{under}
+use Rattle.entered.proofs.Entered.{count-word}
 use Rattle.entered.proofs.is_some_under.Statement.{statement}
 use Rattle.entered.proofs.is_some_under.Tie as tie
 
@@ -22,10 +22,6 @@ Inv-loop t itself k a i₀ left₀ i left =
 
 abbrev μ-loop : tie.MeasureT-loop
 μ-loop t itself k a i₀ left₀ i left = left
-
--- a span's count is the word behind its first
-count-word : (t : List ℕ) (k : ℕ) → at t (transitionAt t k + 7) ≡ view t .aims k .count
-count-word t k = let e : transitionAt t k + 7 ≡ transitionAt t k + 6 + 1 = omega arith in ap (at t) e
 
 loop-holds : tie.Need-loop-holds Inv-loop μ-loop
 unfolding targetsOf

@@ -20,7 +20,7 @@ returns-2 c =
     let start = c .before .before .before .before .before .before .before .before .before in
     let first = c .before .before .before .before in
     let or-state = sym (first .before .is-and .ensures) ∙ first .if1 .left in
-    let is-active = sym (start .pre .3 (start .args .o)) ∙ sym (c .before .before .has-in .ensures) ∙ c .before .if2 .taken in
+    let is-active = sym (start .pre .3) ∙ sym (c .before .before .has-in .ensures) ∙ c .before .if2 .taken in
     rw (or-state, is-active) cc
 
 returns-3 : tie.Need-returns-3
@@ -30,7 +30,7 @@ returns-3 c =
     let second = c .before .before .before in
     let first = second .before .before .before in
     let or-state = sym (first .before .is-and .ensures) ∙ first .if1 .left in
-    let sleeps = sym (start .pre .3 (start .args .o)) ∙ sym (second .before .has-in .ensures) ∙ second .if2 .left in
+    let sleeps = sym (start .pre .3) ∙ sym (second .before .has-in .ensures) ∙ second .if2 .left in
     let keeps = sym (c .before .before .keeps-word .ensures) ∙ c .before .if3 .taken in
     rw (or-state, sleeps, keeps) cc
 
@@ -41,7 +41,7 @@ returns-4 c =
     let second = c .before .before .before in
     let first = second .before .before .before in
     let or-state = sym (first .before .is-and .ensures) ∙ first .if1 .left in
-    let sleeps = sym (start .pre .3 (start .args .o)) ∙ sym (second .before .has-in .ensures) ∙ second .if2 .left in
+    let sleeps = sym (start .pre .3) ∙ sym (second .before .has-in .ensures) ∙ second .if2 .left in
     let forgets = sym (c .before .before .keeps-word .ensures) ∙ c .before .if3 .left in
     rw (or-state, sleeps, forgets) cc
 

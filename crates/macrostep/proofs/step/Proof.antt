@@ -1,10 +1,9 @@
 -- `macrostep::step` meets its contract: a microstep of the form that the table has. Assumes nothing.
 use borrow.Author.Needs.{needs}
-use mathlib.Core.Path.{_≡_, sym, ap, _∙_, subst}
+use mathlib.Core.Path.{sym, ap, _∙_, subst}
 use native.Mathlib.Omega.{arith}
 use denote.Ref.{now}
-use lib.ListN.{length}
-use Rattle.effects.specs.Work.{Going, going, doSteps}
+use Rattle.effects.specs.Work.{going, doSteps}
 use Rattle.macrostep.specs.Forms.{machineOf, wordsOf, Ready}
 use Rattle.macrostep.specs.declared.Form.{Form}
 use Rattle.macrostep.proofs.step.Statement.{statement}

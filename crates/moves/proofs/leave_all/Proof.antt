@@ -5,8 +5,8 @@ use mathlib.Core.Path.{_≡_, refl, sym, ap, _∙_}
 use mathlib.Core.List.{List}
 use native.Mathlib.Omega.{arith}
 use denote.Ref.{now}
-use lib.ListN.{length, getD}
-use mathlib.Core.Bool.{Bool, false}
+use lib.ListN.{length}
+use mathlib.Core.Bool.{Bool}
 use Rattle.words.specs.Loops.{joinDown, when}
 use Rattle.effects.specs.Run.{Step}
 use Rattle.effects.specs.Work.{going, doSteps}

@@ -1,6 +1,6 @@
 -- `moves::take_own` meets its contract: what it returns is what its callees say. Assumes nothing.
 use Prim.Native.Nat.{_+_}
-use mathlib.Core.Path.{_≡_, refl, ap}
+use mathlib.Core.Path.{_≡_, refl}
 use native.Mathlib.Omega.{arith}
 use denote.Ref.{now}
 use Rattle.table.specs.Span.{spanAt}

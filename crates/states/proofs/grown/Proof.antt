@@ -4,16 +4,14 @@ use mathlib.Core.Bool.{false}
 use lib.ListN.{set}
 use lib.Seq.{set-getD}
 use Rattle.states.specs.Cells.{cells}
-use Rattle.states.proofs.Bits.{cell-set}
 use borrow.Author.Needs.{needs}
 use Rattle.states.proofs.grown.Statement.{statement}
 use Rattle.states.proofs.grown.Tie as tie
 
 returns : tie.Need-returns
-unfolding cells
 returns c =
     let s = c .before .before in
-    cell-set (s .args .s .bits) (s .args .k) _ (s .pre .0) (c .with-bit .ensures) (s .args .b) (c .before .if1 .taken)
+    c .add .ensures ∙ ap (set (cells (s .args .s)) (s .args .k)) (sym (c .before .if1 .taken))
 
 returns-2 : tie.Need-returns-2
 returns-2 c =
