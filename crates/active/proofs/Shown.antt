@@ -9,12 +9,12 @@ use native.Mathlib.Omega.{arith}
 use lib.ListN.{length, getD, set, length-set, List·getD-eq-default}
 use lib.Seq.{getD-set-same, getD-set-other}
 use lib.Dec.{eqb, ltb}
-use Rattle.words.proofs.Tests.{by-bool, clash, eqb-yes, eqb-no, eqb-eq, eqb-ne, ltb-yes, ltb-no}
+use Rattle.words.proofs.Tests.{by-bool, clash, not-no, eqb-yes, eqb-no, eqb-eq, eqb-ne, ltb-yes, ltb-no}
 use Rattle.words.proofs.Loops.{tab-length}
 use Rattle.chart.specs.View.{Chart, isAnd, childOf?}
 use Rattle.states.specs.Cells.{noCells}
 use Rattle.states.proofs.Cells.{filled-none}
-use Rattle.meaning.specs.Active.{child, activeAt, actives, active}
+use Rattle.meaning.specs.Active.{isOr, child, activeAt, actives, active}
 use Rattle.meaning.proofs.Tree.{Tree, child-told, child-and, up-lt}
 use Rattle.meaning.proofs.Active.{active-root, active-or, active-and}
 use Rattle.active.specs.Shown.{decider, withChild, Shown}
@@ -45,6 +45,27 @@ module _ {c : Chart} (w : Tree c) where
         (λ a e. let up : active c words (c .parent j) ≡ false = rw a at e in active-and w words j h a ∙ rw up refl)
         (λ a e. rw a at e)
 
+    -- an and-state decides on nothing: where from k on there are no others, k' is reached
+    pub shown-skip : (k k' : ℕ) (acts : List Bool) → k ≤ k' → ((j : ℕ) → k ≤ j → j < k' → isOr c j ≡ false)
+        → Shown c words k acts → Shown c words k' acts
+    shown-skip k k' acts l none s j =
+        s j
+        ∙ elim (decLt j (c .states)) [
+          | no h ↦ let out = active-out c words j (omega arith) in rw out refl
+          | yes h ↦ ap (λ (b : Bool). active c words j && b) (same (decider c j) (decider-or j h))
+        ]
+      where
+        same : (d : ℕ) → isAnd c d ≡ false → ltb d k ≡ ltb d k'
+        same d e =
+            elim (decLt d k) [
+              | yes h ↦ ltb-yes d k h ∙ sym (ltb-yes d k' (omega arith))
+              | no h ↦
+                  elim (decLt d k') [
+                    | yes h' ↦ clash (isOr c d) (not-no (isAnd c d) e) (none d (omega arith) h')
+                    | no h' ↦ ltb-no d k (omega arith) ∙ sym (ltb-no d k' (omega arith))
+                  ]
+            ]
+
     module _ (o : ℕ) where
       -- where the states that o decides on are as they are to be, and the others as they were, the next or-state is reached
       next : (old new : List Bool) → Shown c words o old
@@ -69,11 +90,6 @@ module _ {c : Chart} (w : Tree c) where
                 | yes l ↦ ltb-yes d o l ∙ sym (ltb-yes d (o + 1) (omega arith))
                 | no l ↦ ltb-no d o (omega arith) ∙ sym (ltb-no d (o + 1) (omega arith))
               ]
-
-      -- an and-state decides on nothing
-      pub shown-and : (acts : List Bool) → isAnd c o ≡ true → Shown c words o acts → Shown c words (o + 1) acts
-      shown-and acts a s =
-          next acts acts s (λ j h e. clash (isAnd c o) a (ap (isAnd c) (sym e) ∙ decider-or j h)) (λ j n. refl)
 
       module _ (in-states : o < c .states) (is-or : isAnd c o ≡ false) where
         -- an or-state is the root, or is active where its parent is, which is decided on before it

@@ -1,3 +1,5 @@
--- `Ranks`: the places of the or-states' words; `Shown`: what a set shows of the active states that is filled or-state by or-state.
+-- `Ors`: the or-states as a set; `Ranks`: the places of their words; `Shown`: what a set shows of the active states that is filled
+-- or-state by or-state.
+pub mod Ors
 pub mod Ranks
 pub mod Shown

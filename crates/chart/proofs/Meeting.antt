@@ -1,11 +1,11 @@
 -- Two states meet where the larger one's parent meets the other, on any words at all. Assumes nothing.
 use Prim.Native.Nat.{ℕ, _<_, _≤_}
-use mathlib.Core.Path.{_≡_, refl, sym, ap, _∙_}
-use mathlib.Core.Bool.{Bool, true, false, _&&_, _||_, and-comm}
+use mathlib.Core.Path.{_≡_, refl, _∙_}
+use mathlib.Core.Bool.{true, false, _&&_, and-comm}
 use native.Mathlib.Omega.{arith}
-use lib.Dec.{eqb, ltb}
+use lib.Dec.{ltb}
 use Rattle.words.specs.Loops.{greatest}
-use Rattle.words.proofs.Tests.{by-bool, clash, eqb-eq, eqb-no, and-i, and-l, ltb-yes, ltb-no}
+use Rattle.words.proofs.Tests.{by-bool, eqb-no, and-i, and-l, ltb-yes, ltb-no}
 use Rattle.words.proofs.Loops.{greatest-passes, greatest-most, greatest-none, greatest-cong}
 use Rattle.chart.specs.View.{Chart}
 use Rattle.chart.specs.Tree.{within, common, meeting}

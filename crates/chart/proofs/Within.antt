@@ -1,11 +1,11 @@
 -- What `within` says of a state by what it says of its parent, on any words at all. Assumes nothing.
 use Prim.Native.Nat.{ℕ, zero, suc, _<_, _≤_}
 use mathlib.Core.Path.{_≡_, refl, sym, ap, _∙_}
-use mathlib.Core.Bool.{Bool, true, false, not, _&&_, _||_, or-false}
+use mathlib.Core.Bool.{Bool, true, false, _&&_, _||_, or-false}
 use mathlib.Core.Logic.{_≢_}
 use native.Mathlib.Nat.{not-suc-le-zero, le-refl}
 use native.Mathlib.Omega.{arith}
-use lib.ListN.{length, getD, List·getD-eq-default}
+use lib.ListN.{getD, List·getD-eq-default}
 use lib.Dec.{eqb, ltb}
 use Rattle.words.specs.Loops.{tab}
 use Rattle.words.proofs.Tests.{by-bool, clash, eqb-eq, eqb-ne, eqb-no, eqb-self, or-l, or-second, and-l, and-r, ltb-lt, ltb-ge, ltb-yes, ltb-no}

@@ -75,13 +75,13 @@ module _ (c : Chart) where
   inside : (s : Span) (size : ℕ) → Tells (inside? s size) (Inside s size)
   inside s size = le (s .first + s .count) size
 
-  state-spans : (k : ℕ) → Tells (goodStateSpans? c k) (GoodStateSpans c k)
+  pub state-spans : (k : ℕ) → Tells (goodStateSpans? c k) (GoodStateSpans c k)
   unfolding goodStateSpans?
   state-spans k =
       said (inside (c .exits k) (c .items) and inside (c .entries k) (c .items))
       (λ r. record { exits = r .0; entries = r .1 }) (λ g. (g .exits, g .entries))
 
-  transition-spans : (k : ℕ) → Tells (goodTransitionSpans? c k) (GoodTransitionSpans c k)
+  pub transition-spans : (k : ℕ) → Tells (goodTransitionSpans? c k) (GoodTransitionSpans c k)
   unfolding goodTransitionSpans?
   transition-spans k =
       said

@@ -3,7 +3,7 @@ use Prim.Native.Nat.{ℕ, _+_, _<_, _≤_}
 use mathlib.Core.Path.{_≡_}
 use mathlib.Core.Logic.{_≢_}
 use mathlib.Core.List.{List}
-use Rattle.table.specs.Span.{Span, Inside}
+use Rattle.table.specs.Span.{Inside}
 use Rattle.table.specs.Rows.{GoodItem}
 use Rattle.chart.specs.View.{Chart, view, countsOf, IsAnd, IsOr}
 use Rattle.chart.specs.Tree.{Apart}

@@ -85,7 +85,7 @@ pub fn good_state(t: &[u16], k: usize) -> bool
 }
 
 // Rule 5 for a state.
-fn good_state_spans(t: &[u16], k: usize) -> bool
+pub fn good_state_spans(t: &[u16], k: usize) -> bool
     requires { ⌜ Readable (now t) × (k < view (now t) .states) ⌝ }
     ensures { λ r. ⌜ r ≡ goodStateSpans? (view (now (t .entry))) k ⌝ }
 {
@@ -97,7 +97,7 @@ fn good_state_spans(t: &[u16], k: usize) -> bool
 }
 
 // Rule 5 for a transition.
-fn good_transition_spans(t: &[u16], k: usize) -> bool
+pub fn good_transition_spans(t: &[u16], k: usize) -> bool
     requires { ⌜ Readable (now t) × (k < view (now t) .transitions) ⌝ }
     ensures { λ r. ⌜ r ≡ goodTransitionSpans? (view (now (t .entry))) k ⌝ }
 {

@@ -1,11 +1,11 @@
 -- Words copied one by one to behind the first `at` of others, up to their end. Assumes nothing.
-use mathlib.Core.Path.{_≡_, ap, ap₂, _∙_}
+use mathlib.Core.Path.{_≡_, ap₂, _∙_}
 use mathlib.Core.List.{List, _++_, append-nil}
 use Prim.Native.Nat.{ℕ, _+_, _≤_, _<_}
 use native.Mathlib.Numerals.{add-one}
 use native.Mathlib.Omega.{arith}
 use lib.ListN.{length, getD, set, take, drop, length-drop, drop-of-length-le}
-use lib.Seq.{paste, paste-suc, length-paste, take-all, length-take-le, getD-take, getD-drop}
+use lib.Seq.{paste, paste-suc, take-all, length-take-le, getD-take, getD-drop}
 
 module _ (d : List ℕ) (at : ℕ) (s to : List ℕ) (i : ℕ) where
   -- one word more
@@ -18,10 +18,6 @@ module _ (d : List ℕ) (at : ℕ) (s to : List ℕ) (i : ℕ) where
   copy-end fit e h =
       e ∙ ap₂ (λ (a b : List ℕ). take at d ++ a ++ b) (take-all i s h) (drop-of-length-le d {i = at + i} (omega arith))
       ∙ append-nil (take at d ++ s)
-
-  -- they are as many as before
-  pub copy-length : at + length s ≡ length d → to ≡ paste d at s i → i ≤ length s → length to ≡ length d
-  copy-length fit e h = ap length e ∙ length-paste d at s i (omega arith) h
 
 -- the words that are loaded
 module _ (from : List ℕ) (at n : ℕ) where

@@ -2,9 +2,17 @@
 // knows neither charts nor flat tables.
 ghost use mathlib.Core.Path.{_≡_};
 ghost use mathlib.Core.List.{_++_};
-ghost use Prim.Native.Nat.{_+_, _-_, _≤_};
-ghost use lib.ListN.{length, take, drop};
+ghost use Prim.Native.Nat.{_+_, _-_, _<_, _≤_};
+ghost use lib.ListN.{length, set, take, drop};
 ghost use Rattle.effects.specs.Lent.{roomFor, zeros};
+
+// Word i becomes v, where the slice has it.
+fn put_in(t: &mut [u16], i: usize, v: u16)
+    requires { ⌜ i < length (now t) ⌝ }
+    ensures { λ r. ⌜ now (t .exit) ≡ set (now (t .entry)) i v ⌝ }
+{
+    t[i] = v;
+}
 
 // As many words as `to` has, of `from` from `at` on.
 pub fn load(to: &mut [u16], from: &[u16], at: usize)
@@ -14,7 +22,7 @@ pub fn load(to: &mut [u16], from: &[u16], at: usize)
     let n = to.len();
     let mut i = 0;
     while i < n {
-        words::put(to, i, words::word(from, at + i));
+        put_in(to, i, words::word_in(from, at + i));
         i += 1;
     }
 }
@@ -26,7 +34,7 @@ pub fn store(to: &mut [u16], at: usize, from: &[u16])
 {
     let mut i = 0;
     while i < from.len() {
-        words::put(to, at + i, words::word(from, i));
+        put_in(to, at + i, words::word_in(from, i));
         i += 1;
     }
 }
@@ -47,7 +55,7 @@ pub fn clear(to: &mut [u16], at: usize)
 {
     let mut i = at;
     while i < to.len() {
-        words::put(to, i, 0);
+        put_in(to, i, 0);
         i += 1;
     }
 }

@@ -1,6 +1,6 @@
 -- What items do, and how a macrostep goes, for any machine: a machine says which steps a microstep takes, and all else is
 -- here. The chart and the flat table are two machines.
-use mathlib.Core.Bool.{Bool, true, false, cond}
+use mathlib.Core.Bool.{cond}
 use mathlib.Core.List.{List, [], _∷_, _++_}
 use Prim.Native.Nat.{ℕ, zero, suc, _+_, _*_}
 use lib.ListN.{length, getD, set}

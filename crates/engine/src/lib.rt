@@ -1,6 +1,6 @@
 // The chart engine: the calls that start and run a chart. It takes any table, state, event and room.
 ghost use mathlib.Core.Path.{_≡_};
-ghost use Prim.Native.Nat.{_+_, _≤_};
+ghost use Prim.Native.Nat.{_≤_};
 ghost use lib.ListN.{length};
 ghost use Rattle.table.specs.Answers.{told};
 ghost use Rattle.effects.specs.Lent.{startTold};
@@ -9,10 +9,12 @@ ghost use Rattle.chart_rules.specs.Rules.{ChartRules};
 ghost use Rattle.chart_check.specs.Answer.{chartAnswer};
 ghost use Rattle.meaning.specs.State.{orStates, stateLength};
 ghost use Rattle.meaning.specs.Calls.{startedOn, startChart, ranOn, ranAccepted, runChart};
-ghost use Rattle.active.specs.Ranks.{Ranks};
+ghost use Rattle.states.specs.Cells.{cells};
+ghost use Rattle.active.specs.Ors.{Ors};
 ghost use Rattle.engine.specs.Told.{ranTold, countsOf};
 use effects::Progress;
 use macrostep::Form;
+use states::StateSet;
 use table::Refusal;
 use table::Trigger;
 use table::Verdict;
@@ -45,20 +47,20 @@ fn counts_of(n: Progress) -> Counts
     }
 }
 
-// One event on a state of an accepted chart. `ranks` are the places of its or-states' words, with space for as many words behind
-// them as it has or-states, `ors`.
+// One event on a state of an accepted chart. `ors` are its or-states, `own` has space for a word of each of them.
 fn run_state(
     t: &[u16],
-    ranks: &mut [u16],
-    ors: usize,
+    ors: StateSet,
+    own: &mut [u16],
     state: &mut [u16],
     event: Trigger,
     outputs: &mut [u16],
 ) -> ChartRun
-    requires { ⌜ ChartRules (now t) × Ranks (view (now t)) (now ranks) × (48 + orStates (view (now t)) ≡ length (now ranks)) × (ors ≡ orStates (view (now t))) × (ors ≤ 24) × (length (now state) ≡ stateLength (view (now t))) ⌝ }
+    requires { ⌜ ChartRules (now t) × Ors (view (now t)) (cells ors) × (orStates (view (now t)) ≡ length (now own)) × (length (now own) ≤ 24) × (length (now state) ≡ stateLength (view (now t))) ⌝ }
     ensures { λ r. ⌜ ranTold r (now (state .exit)) (now (outputs .exit)) ≡ ranOn (view (now (t .entry))) (now (state .entry)) (event .0) (now (outputs .entry)) ⌝ }
 {
-    let n = macrostep::run(Form::Chart, t, ranks, ors, state, event, outputs);
+    let words = own.len();
+    let n = macrostep::run(Form::Chart, ors, t, own, words, state, event, outputs);
     let stop = n.stop;
     if effects::has_stopped(stop) {
         return ChartRun::Refused(effects::refusal_of(stop));
@@ -71,16 +73,16 @@ fn run_accepted(t: &[u16], state: &mut [u16], event: u32, outputs: &mut [u16]) -
     requires { ⌜ ChartRules (now t) ⌝ }
     ensures { λ r. ⌜ ranTold r (now (state .exit)) (now (outputs .exit)) ≡ ranAccepted (view (now (t .entry))) (now (state .entry)) event (now (outputs .entry)) ⌝ }
 {
-    let mut ranks = [0u16; 72];
-    let ors = active::or_ranks(t, &mut ranks);
-    if !lent::is_state(t, &ranks, ors, state) {
+    let ors = active::or_states(t);
+    let words = active::count(t, ors);
+    if !lent::is_state(t, ors, words, state) {
         return ChartRun::Refused(Refusal::State);
     }
     if chart::head(t, chart::EVENTS) <= effects::wide(event) {
         return ChartRun::Refused(Refusal::NoEvent);
     }
-    let end = 48 + ors;
-    run_state(t, &mut ranks[..end], ors, state, Trigger(event), outputs)
+    let mut own = [0u16; 24];
+    run_state(t, ors, &mut own[..words], state, Trigger(event), outputs)
 }
 
 // The check's answer to a chart, in a call of its own: what it takes on the stack is free again for the run.
@@ -106,13 +108,12 @@ fn start_accepted(t: &[u16], state: &mut [u16]) -> Verdict
     requires { ⌜ ChartRules (now t) ⌝ }
     ensures { λ r. ⌜ startTold r (now (state .exit)) ≡ startedOn (view (now (t .entry))) (now (state .entry)) ⌝ }
 {
-    let mut ranks = [0u16; 48];
-    let ors = active::or_ranks(t, &mut ranks);
-    if state.len() != ors + chart::head(t, chart::VARIABLES) {
+    let words = active::count(t, active::or_states(t));
+    if state.len() != words + chart::head(t, chart::VARIABLES) {
         return Verdict::Refused(Refusal::State);
     }
     lent::lay_initials(t, state);
-    copies::clear(state, ors);
+    copies::clear(state, words);
     Verdict::Done
 }
 

@@ -12,22 +12,24 @@ use lib.ListN.{length, getD, set, List·getD-eq-default}
 use lib.Seq.{getD-set-same, getD-set-other}
 use lib.Dec.{eqb, ltb}
 use Rattle.words.specs.Loops.{many, any}
-use Rattle.words.proofs.Tests.{by-bool, clash, same-test, and-i, or-r}
+use Rattle.words.proofs.Tests.{by-bool, clash, same-test, and-i, or-r, not-yes, not-no}
 use Rattle.words.proofs.Tests.{eqb-yes, eqb-no, eqb-eq, eqb-ne, eqb-self, ltb-yes, ltb-lt, ltb-no, ltb-ge}
 use Rattle.words.proofs.Lists.{any-some, some-any}
 use Rattle.words.proofs.Loops.{tab-length}
 use Rattle.chart.specs.View.{Chart, isAnd, childOf?}
 use Rattle.chart.specs.Tree.{Above, parent-of, above-parent, within}
-use Rattle.chart.proofs.Within.{within-self, within-up, within-end}
+use Rattle.chart.proofs.Within.{within-self, within-le, within-up, within-end}
 use Rattle.chart.proofs.Tree.{within-parent, above-told}
 use Rattle.states.specs.Cells.{noCells}
+use Rattle.states.specs.Next.{Next}
 use Rattle.states.proofs.Cells.{filled-none}
 use Rattle.meaning.specs.Active.{isOr, child}
 use Rattle.meaning.specs.Scope.{beneath, targetsOf, scope}
 use Rattle.meaning.specs.Entered.{keepsWord, entersLatest, aimed, leads, chosen, enteredAt, entereds}
 use Rattle.meaning.proofs.Tree.{Tree, child-told, child-and, up-lt}
-use Rattle.meaning.proofs.Scope.{beneath-tells}
-use Rattle.meaning.proofs.Entered.{entered-or, entered-and}
+use Rattle.meaning.proofs.Scope.{beneath-tells, scope-above}
+use Rattle.meaning.proofs.Entered.{entered-or, entered-and, entered-in}
+use Rattle.active.specs.Ors.{Ors}
 use Rattle.entered.specs.Came.{Came}
 
 -- ---- tests
@@ -85,7 +87,7 @@ module _ (c : Chart) (o w : ℕ) (s : List Bool) where
       ]
 
 module _ {c : Chart} (w : Tree c) where
-  -- ---- what is entered is an and-state
+  -- ---- what is entered is an and-state, in an or-state
   module _ (words : List ℕ) (k : ℕ) where
     entered-out : (j : ℕ) → c .states ≤ j → getD (entereds c words k) j false ≡ false
     unfolding entereds
@@ -101,6 +103,12 @@ module _ {c : Chart} (w : Tree c) where
     is-and j h e =
         by-bool (isAnd c j) (λ a. a)
         (λ a. clash (getD (entereds c words k) j false) e (entered-or w words k j h a))
+
+    parent-in : (j : ℕ) → getD (entereds c words k) j false ≡ true → (c .parent j < c .states) × (isAnd c (c .parent j) ≡ false)
+    parent-in j e =
+        let h = ltb-lt j (c .states) (in-states j e) in
+        let a = is-and j h e in
+        (omega (arith, up-lt w j h a), w .and-up j h a)
 
   -- ---- up to a child of o
   module _ (o : ℕ) (o-in : o < c .states) where
@@ -237,40 +245,10 @@ module _ {c : Chart} (w : Tree c) where
           (λ a. a)
 
       -- ---- the set
-      -- whether a child of o is entered, as the set so far tells it
-      abbrev way : List Bool → Bool
-      way s = isOr c o && (eqb o (scope c k) || (not (eqb o 0) && getD s (c .parent o) false))
-
-      -- the and-state above o has its cell already
-      grand-came : (s : List Bool) → Came c words k o s → isAnd c o ≡ false → o ≢ 0
-          → getD s (c .parent o) false ≡ getD (entereds c words k) (c .parent o) false
-      grand-came s f a z =
-          let l = w .smaller o o-in z in
-          let p = c .parent o in
-          let g = up-lt w p (omega arith) (w .or-up o o-in z a) in
-          let r : (getD (entereds c words k) p false && true) ≡ getD (entereds c words k) p false =
-          by-bool (getD (entereds c words k) p false) (λ e. rw e refl) (λ e. rw e refl) in
-          f p ∙ ap (λ (b : Bool). getD (entereds c words k) p false && b) (ltb-yes (c .parent p) o (omega arith)) ∙ r
-
-      -- a child of o is entered where one is, and it is chosen
-      child-entered : (s : List Bool) → Came c words k o s → (j : ℕ) → childOf? c o j ≡ true
-          → getD (entereds c words k) j false ≡ (way s && chosen c words k j)
-      child-entered s f j t =
-          let is = child-told c o j .told t in
-          by-bool (isAnd c o)
-          (λ a. entered-or w words k j (is .0)
-          (by-bool (isAnd c j) (λ b. clash (isAnd c o) a (ap (isAnd c) (sym (is .1)) ∙ w .and-up j (is .0) b)) (λ b. b))
-          ∙ sym (rw a refl))
-          (λ a. let b = child-and w j (is .0) (omega (arith, is .1)) (ap (isAnd c) (is .1) ∙ a) in
-          entered-and w words k j (is .0) b
-          ∙ rw (is .1, a)
-          (ap (λ (x : Bool). (eqb o (scope c k) || x) && chosen c words k j)
-          (by-bool (eqb o 0) (λ z. rw z refl)
-          (λ z. rw z (sym (grand-came s f a (eqb-ne o 0 z)))))))
-
       -- a state that is no child of o
       other-entered : (j : ℕ) → childOf? c o j ≡ false
-          → (getD (entereds c words k) j false && ltb (c .parent j) o) ≡ (getD (entereds c words k) j false && ltb (c .parent j) (o + 1))
+          → (getD (entereds c words k) j false && ltb (c .parent j) o)
+          ≡ (getD (entereds c words k) j false && ltb (c .parent j) (o + 1))
       other-entered j t =
           guarded (getD (entereds c words k) j false)
           (λ e. let other : c .parent j ≢ o = λ q. clash (childOf? c o j) (and-i (in-states words k j e) (eqb-yes q)) t in
@@ -285,47 +263,100 @@ module _ {c : Chart} (w : Tree c) where
           ∙ by-bool (getD (entereds c words k) j false)
           (λ e. rw e (ltb-no (c .parent j) o (omega (arith, child-told c o j .told t .1)))) (λ e. rw e refl)
 
-      -- with the child of o that is chosen, where one is entered, the set has what is entered up to o
-      came-next : (s r : List Bool) → Came c words k o s
-          → ((j : ℕ) → getD r j false ≡ (getD s j false || (way s && (childOf? c o j && chosen c words k j))))
-          → Came c words k (o + 1) r
-      came-next s r f more j =
-          more j
-          ∙ by-bool (childOf? c o j)
-          (λ t. rw (not-come s f j t, t)
-          (sym (child-entered s f j t)
-          ∙ by-bool (getD (entereds c words k) j false)
-          (λ e. rw e (sym (ltb-yes (c .parent j) (o + 1) (omega (arith, child-told c o j .told t .1))))) (λ e. rw e refl)))
-          (λ t. rw t (ap (λ (b : Bool). getD s j false || b) (by-bool (way s) (λ e. rw e refl) (λ e. rw e refl))
-          ∙ no-more true (getD s j false) ∙ f j ∙ other-entered j t))
+      -- at or-state o
+      module _ (is-or : isOr c o ≡ true) where
+        o-or : isAnd c o ≡ false
+        o-or = not-yes (isAnd c o) is-or
 
-      -- as it is told of a number that is the scope's
-      module _ (top : ℕ) (is : top ≡ scope c k) (s : List Bool) (f : Came c words k o s) where
-        told-way : (b : Bool) → b ≡ (isOr c o && (eqb o top || (not (eqb o 0) && getD s (c .parent o) false))) → way s ≡ b
-        told-way b e =
-            ap (λ (n : ℕ). isOr c o && (eqb o n || (not (eqb o 0) && getD s (c .parent o) false))) (sym is) ∙ sym e
+        -- whether a child of o is entered, as the set so far tells it
+        abbrev way : List Bool → Bool
+        way s = eqb o (scope c k) || (not (eqb o 0) && getD s (c .parent o) false)
 
-        pub came-with : (b : Bool) → b ≡ (isOr c o && (eqb o top || (not (eqb o 0) && getD s (c .parent o) false))) → b ≡ true
-            → (r : List Bool) → ((j : ℕ) → getD r j false ≡ (getD s j false || (childOf? c o j && chosen c words k j)))
+        -- the and-state above o has its cell already
+        grand-came : (s : List Bool) → Came c words k o s → o ≢ 0
+            → getD s (c .parent o) false ≡ getD (entereds c words k) (c .parent o) false
+        grand-came s f z =
+            let l = w .smaller o o-in z in
+            let p = c .parent o in
+            let g = up-lt w p (omega arith) (w .or-up o o-in z o-or) in
+            let r : (getD (entereds c words k) p false && true) ≡ getD (entereds c words k) p false =
+            by-bool (getD (entereds c words k) p false) (λ e. rw e refl) (λ e. rw e refl) in
+            f p ∙ ap (λ (b : Bool). getD (entereds c words k) p false && b) (ltb-yes (c .parent p) o (omega arith)) ∙ r
+
+        -- a child of o is entered where one is, and it is chosen
+        child-entered : (s : List Bool) → Came c words k o s → (j : ℕ) → childOf? c o j ≡ true
+            → getD (entereds c words k) j false ≡ (way s && chosen c words k j)
+        child-entered s f j t =
+            let is = child-told c o j .told t in
+            entered-and w words k j (is .0) (child-and w j (is .0) (omega (arith, is .1)) (ap (isAnd c) (is .1) ∙ o-or))
+            ∙ rw (is .1)
+            (ap (λ (x : Bool). (eqb o (scope c k) || x) && chosen c words k j)
+            (by-bool (eqb o 0) (λ z. rw z refl)
+            (λ z. rw z (sym (grand-came s f (eqb-ne o 0 z))))))
+
+        -- with the child of o that is chosen, where one is entered, the set has what is entered up to o
+        came-next : (s r : List Bool) → Came c words k o s
+            → ((j : ℕ) → getD r j false ≡ (getD s j false || (way s && (childOf? c o j && chosen c words k j))))
             → Came c words k (o + 1) r
-        came-with b e t r more = came-next s r f (λ j. rw (told-way b e ∙ t) (more j))
+        came-next s r f more j =
+            more j
+            ∙ by-bool (childOf? c o j)
+            (λ t. rw (not-come s f j t, t)
+            (sym (child-entered s f j t)
+            ∙ by-bool (getD (entereds c words k) j false)
+            (λ e. rw e (sym (ltb-yes (c .parent j) (o + 1) (omega (arith, child-told c o j .told t .1))))) (λ e. rw e refl)))
+            (λ t. rw t (ap (λ (b : Bool). getD s j false || b) (by-bool (way s) (λ e. rw e refl) (λ e. rw e refl))
+            ∙ no-more true (getD s j false) ∙ f j ∙ other-entered j t))
 
-        pub came-without : (b : Bool) → b ≡ (isOr c o && (eqb o top || (not (eqb o 0) && getD s (c .parent o) false)))
-            → b ≡ false → Came c words k (o + 1) s
-        came-without b e t = came-next s s f (λ j. rw (told-way b e ∙ t) (sym (no-more true (getD s j false))))
+        -- as it is told of a number that is the scope's
+        module _ (top : ℕ) (is : top ≡ scope c k) (s : List Bool) (f : Came c words k o s) where
+          told-way : (b : Bool) → b ≡ (eqb o top || (not (eqb o 0) && getD s (c .parent o) false)) → way s ≡ b
+          told-way b e = ap (λ (n : ℕ). eqb o n || (not (eqb o 0) && getD s (c .parent o) false)) (sym is) ∙ sym e
 
-  -- ---- nothing of it, and all of it
+          pub came-with : (b : Bool) → b ≡ (eqb o top || (not (eqb o 0) && getD s (c .parent o) false)) → b ≡ true
+              → (r : List Bool) → ((j : ℕ) → getD r j false ≡ (getD s j false || (childOf? c o j && chosen c words k j)))
+              → Came c words k (o + 1) r
+          came-with b e t r more = came-next s r f (λ j. rw (told-way b e ∙ t) (more j))
+
+          pub came-without : (b : Bool) → b ≡ (eqb o top || (not (eqb o 0) && getD s (c .parent o) false))
+              → b ≡ false → Came c words k (o + 1) s
+          came-without b e t = came-next s s f (λ j. rw (told-way b e ∙ t) (sym (no-more true (getD s j false))))
+
+  -- ---- the scope is an or-state
+  pub scope-or : (k : ℕ) → k < c .transitions → isOr c (scope c k) ≡ true
+  scope-or k l = not-no (isAnd c (scope c k)) (eqb-no (scope-above w k l .an-or-state))
+
+  -- ---- nothing of it, no more of it, and all of it
   module _ (words : List ℕ) (k : ℕ) where
-    pub came-none : {s : List Bool} → s ≡ noCells → Came c words k 0 s
-    came-none e j =
+    -- what is entered is below the scope, so nothing is in the or-states before it
+    pub came-none : {s : List Bool} → s ≡ noCells → (top : ℕ) → top ≡ scope c k → Came c words k top s
+    came-none e top is j =
         ap (λ (l : List Bool). getD l j false) e
         ∙ filled-none (enteredAt c words k) j
-        ∙ by-bool (getD (entereds c words k) j false) (λ q. rw q (sym (ltb-no (c .parent j) 0 (omega arith)))) (λ q. rw q refl)
+        ∙ by-bool (getD (entereds c words k) j false)
+        (λ q. let up = parent-in words k j q in
+        let a-in = ltb-lt j (c .states) (in-states words k j q) in
+        let low = within-le c (scope c k) (c .parent j) (up .0) (entered-in w words k j a-in (is-and words k j a-in q) q) in
+        rw q (sym (ltb-no (c .parent j) top (omega arith))))
+        (λ q. rw q refl)
+
+    -- nothing is entered in what is no or-state
+    pub came-on : (ors : List Bool) → Ors c ors → (m n o : ℕ) → Next ors m n o → (s : List Bool)
+        → Came c words k m s → Came c words k o s
+    came-on ors told m n o next s f j =
+        let p = c .parent j in
+        f j
+        ∙ guarded (getD (entereds c words k) j false)
+        (λ e. let up = parent-in words k j e in
+        same-test (ltb p m) (ltb p o)
+        (λ q. ltb-yes p o (omega (arith, ltb-lt p m q, next .from)))
+        (λ q. by-bool (ltb p m) (λ l. l)
+        (λ l. clash (getD ors p false) (told p ∙ and-i (ltb-yes p (c .states) (up .0)) (not-no (isAnd c p) (up .1)))
+        (next .skipped p (ltb-ge p m l) (ltb-lt p o q)))))
 
     pub came-all : (s : List Bool) → Came c words k (c .states) s → (j : ℕ) → getD s j false ≡ getD (entereds c words k) j false
     came-all s f j =
         f j
         ∙ by-bool (getD (entereds c words k) j false)
-        (λ e. let h : j < c .states = ltb-lt j (c .states) (in-states words k j e) in
-        rw e (ltb-yes (c .parent j) (c .states) (omega (arith, up-lt w j h (is-and words k j h e)))))
+        (λ e. rw e (ltb-yes (c .parent j) (c .states) (parent-in words k j e .0)))
         (λ e. rw e refl)

@@ -13,7 +13,7 @@ ghost use Rattle.states.specs.Cells.{cells};
 ghost use Rattle.meaning.specs.Scope.{scope, targetsOf};
 ghost use Rattle.meaning.specs.Active.{isOr};
 ghost use Rattle.meaning.specs.Entered.{reached, aimed, leads, chosen, entereds};
-ghost use Rattle.active.specs.Ranks.{Ranks};
+ghost use Rattle.active.specs.Ors.{Ors};
 ghost use Rattle.entered.specs.Under.{under};
 ghost use Rattle.entered.specs.Came.{Came};
 use states::StateSet;
@@ -111,13 +111,13 @@ fn with_led(t: &[u16], k: usize, o: usize, entered: StateSet) -> StateSet
 // The set, which has no child of or-state o, with the one that transition k chooses.
 fn with_chosen(
     t: &[u16],
-    ranks: &[u16],
+    ors: StateSet,
     current: &[u16],
     k: usize,
     o: usize,
     entered: StateSet,
 ) -> StateSet
-    requires { ⌜ ChartRules (now t) × (k < view (now t) .transitions) × (o < view (now t) .states) × Ranks (view (now t)) (now ranks) × ((j : ℕ) → childOf? (view (now t)) o j ≡ true → getD (cells entered) j false ≡ false) ⌝ }
+    requires { ⌜ ChartRules (now t) × (k < view (now t) .transitions) × (o < view (now t) .states) × Ors (view (now t)) (cells ors) × ((j : ℕ) → childOf? (view (now t)) o j ≡ true → getD (cells entered) j false ≡ false) ⌝ }
     ensures { λ r. ⌜ ((j : ℕ) → getD (cells r) j false ≡ (getD (cells entered) j false || (childOf? (view (now (t .entry))) o j && chosen (view (now (t .entry))) (now (current .entry)) k j))) ⌝ }
 {
     let led = with_led(t, k, o, entered);
@@ -125,7 +125,8 @@ fn with_chosen(
         return led;
     }
     if active::keeps_word(t, o) {
-        return with_child(t, o, active::child_of(t, ranks, current, o), entered);
+        let r = active::rank_of(t, ors, o);
+        return with_child(t, o, active::child_of(t, current, o, r), entered);
     }
     with_child(t, o, chart::state_word(t, o, chart::INITIAL), entered)
 }
@@ -145,14 +146,11 @@ pub fn is_reached(t: &[u16], top: usize, j: usize, entered: StateSet) -> bool
     states::has_in(entered, chart::state_word(t, o, chart::PARENT))
 }
 
-// Whether a child of o is entered: o is an or-state, and `top`, the scope, or below a state of `entered`.
+// Whether a child of or-state o is entered: o is `top`, the scope, or below a state of `entered`.
 fn is_entering(t: &[u16], top: usize, o: usize, entered: StateSet) -> bool
     requires { ⌜ ChartRules (now t) × (o < view (now t) .states) ⌝ }
-    ensures { λ r. ⌜ r ≡ (isOr (view (now (t .entry))) o && (eqb o top || (not (eqb o 0) && getD (cells entered) (view (now (t .entry)) .parent o) false))) ⌝ }
+    ensures { λ r. ⌜ r ≡ (eqb o top || (not (eqb o 0) && getD (cells entered) (view (now (t .entry)) .parent o) false)) ⌝ }
 {
-    if chart::is_and(t, o) {
-        return false;
-    }
     if o == top {
         return true;
     }
@@ -162,36 +160,36 @@ fn is_entering(t: &[u16], top: usize, o: usize, entered: StateSet) -> bool
     states::has_in(entered, chart::state_word(t, o, chart::PARENT))
 }
 
-// The set, which has the states that transition k enters in the or-states before o, with those in o.
+// The set, which has the states that transition k enters in the or-states before or-state o, with those in o.
 fn enter_in(
     t: &[u16],
-    ranks: &[u16],
+    ors: StateSet,
     current: &[u16],
     k: usize,
     top: usize,
     o: usize,
     entered: StateSet,
 ) -> StateSet
-    requires { ⌜ ChartRules (now t) × (k < view (now t) .transitions) × (o < view (now t) .states) × Ranks (view (now t)) (now ranks) × (top ≡ scope (view (now t)) k) × Came (view (now t)) (now current) k o (cells entered) ⌝ }
+    requires { ⌜ ChartRules (now t) × (k < view (now t) .transitions) × (o < view (now t) .states) × (isOr (view (now t)) o ≡ true) × Ors (view (now t)) (cells ors) × (top ≡ scope (view (now t)) k) × Came (view (now t)) (now current) k o (cells entered) ⌝ }
     ensures { λ r. ⌜ Came (view (now (t .entry))) (now (current .entry)) k (o + 1) (cells r) ⌝ }
 {
     if is_entering(t, top, o, entered) {
-        return with_chosen(t, ranks, current, k, o, entered);
+        return with_chosen(t, ors, current, k, o, entered);
     }
     entered
 }
 
-// The states that transition k enters, whose scope is `top`: or-state by or-state, the child that it chooses.
-pub fn entered_set(t: &[u16], ranks: &[u16], current: &[u16], k: usize, top: usize) -> StateSet
-    requires { ⌜ ChartRules (now t) × (k < view (now t) .transitions) × Ranks (view (now t)) (now ranks) × (top ≡ scope (view (now t)) k) ⌝ }
+// The states that transition k enters, whose scope is `top`: or-state by or-state from there, the child that it chooses.
+pub fn entered_set(t: &[u16], ors: StateSet, current: &[u16], k: usize, top: usize) -> StateSet
+    requires { ⌜ ChartRules (now t) × (k < view (now t) .transitions) × Ors (view (now t)) (cells ors) × (top ≡ scope (view (now t)) k) ⌝ }
     ensures { λ r. ⌜ ((j : ℕ) → getD (cells r) j false ≡ getD (entereds (view (now (t .entry))) (now (current .entry)) k) j false) ⌝ }
 {
     let n = chart::head(t, chart::STATES);
     let mut entered = states::none();
-    let mut o = 0;
+    let mut o = top;
     while o < n {
-        entered = enter_in(t, ranks, current, k, top, o, entered);
-        o += 1;
+        entered = enter_in(t, ors, current, k, top, o, entered);
+        o = states::next(ors, o + 1, n);
     }
     entered
 }

@@ -38,9 +38,12 @@ pub record Flat : Type 0 where
 abbrev pub at : List ℕ → ℕ → ℕ
 at t i = getD t i 0
 
--- Where guard k's words begin, and rule k's: header words 12 to 17 are the offsets of the sections.
+-- Where guard k's words begin, literal i's, and rule k's: header words 12 to 17 are the offsets of the sections.
 abbrev pub guardAt : List ℕ → ℕ → ℕ
 guardAt t k = at t 14 + 2 * k
+
+abbrev pub literalAt : List ℕ → ℕ → ℕ
+literalAt t i = at t 15 + 3 * i
 
 abbrev pub ruleAt : List ℕ → ℕ → ℕ
 ruleAt t k = at t 17 + 6 * k
@@ -63,7 +66,7 @@ flatView t = record {
   initial = λ m. at t (at t 12 + m);
   machine = λ j. at t (at t 13 + j);
   asks = λ k. spanAt t (guardAt t k);
-  literal = λ i. tripleAt t (at t 15 + 3 * i);
+  literal = λ i. tripleAt t (literalAt t i);
   item = λ i. tripleAt t (at t 16 + 3 * i);
   trigger = λ k. at t (ruleAt t k + 0);
   first-guard = λ k. at t (ruleAt t k + 1);

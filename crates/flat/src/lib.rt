@@ -4,7 +4,7 @@
 ghost use mathlib.Core.Path.{_≡_};
 ghost use Prim.Native.Nat.{_+_, _*_, _<_};
 ghost use lib.ListN.{length};
-ghost use Rattle.flat.specs.View.{at, flatView, guardAt, ruleAt, stateOf?};
+ghost use Rattle.flat.specs.View.{at, flatView, guardAt, literalAt, ruleAt, stateOf?};
 ghost use Rattle.flat.specs.Readable.{FlatReadable};
 ghost use Rattle.flat.specs.Literals.{flatLiteralOf, flatLiteralIn};
 
@@ -149,18 +149,17 @@ fn literal_of(kind: u16, a: u16, b: u16) -> FlatLiteral
 // Where the words of literal i begin.
 pub fn literal_begin(t: &[u16], i: usize) -> usize
     requires { ⌜ FlatReadable (now t) × (i < flatView (now t) .literals) ⌝ }
-    ensures is { λ x. ⌜ x ≡ at (now (t .entry)) 15 + 3 * i ⌝ }
+    ensures is { λ x. ⌜ x ≡ literalAt (now (t .entry)) i ⌝ }
     ensures inside { λ x. ⌜ x + 2 < length (now (t .entry)) ⌝ }
 {
     head(t, LITERALS_AT) + 3 * i
 }
 
-// Literal i.
-pub fn literal_at(t: &[u16], i: usize) -> FlatLiteral
-    requires { ⌜ FlatReadable (now t) × (i < flatView (now t) .literals) ⌝ }
+// Literal i, whose words begin at `at`.
+pub fn literal_at(t: &[u16], i: usize, at: usize) -> FlatLiteral
+    requires { ⌜ FlatReadable (now t) × (i < flatView (now t) .literals) × (at ≡ literalAt (now t) i) ⌝ }
     ensures { λ r. ⌜ r ≡ flatLiteralIn (flatView (now (t .entry)) .literal i) ⌝ }
 {
-    let at = literal_begin(t, i);
     literal_of(
         words::word_in(t, at),
         words::word_in(t, at + 1),

@@ -82,7 +82,8 @@ fn run_state(
     ensures { λ r. ⌜ flatRanTold r (now (state .exit)) (now (outputs .exit)) ≡ flatRanOn (flatView (now (t .entry))) (now (state .entry)) (event .0) (now (outputs .entry)) ⌝ }
 {
     let machines = flat::head(t, flat::MACHINES);
-    let n = macrostep::run(Form::Flat, t, marks, machines, state, event, outputs);
+    let none = states::none();
+    let n = macrostep::run(Form::Flat, none, t, marks, machines, state, event, outputs);
     let stop = n.stop;
     if effects::has_stopped(stop) {
         return FlatRun::Refused(effects::refusal_of(stop));

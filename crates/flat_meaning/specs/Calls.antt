@@ -1,11 +1,10 @@
 -- What a start and a run of a flat table give: number, place and counts, and every lent word afterwards.
 use Prim.Native.Nat.{ℕ}
-use mathlib.Core.Bool.{Bool, true, false, cond}
+use mathlib.Core.Bool.{cond}
 use mathlib.Core.List.{List, _++_}
 use lib.ListN.{length}
 use lib.Dec.{eqb, ltb}
 use Rattle.table.specs.Answers.{refusalTold}
-use Rattle.table.specs.declared.Refusal.{Refusal}
 use Rattle.table.specs.declared.Refusal.the-variants.{NoEvent, State}
 use Rattle.effects.specs.Run.{Result, ok, refuse, St, written, macrostep}
 use Rattle.effects.specs.Lent.{roomFor, Started}

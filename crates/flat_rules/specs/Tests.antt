@@ -1,6 +1,6 @@
 -- Rules 14 to 18 of specs/Rules.antt as tests, one for each rule and place.
 use Prim.Native.Nat.{ℕ, _+_, _-_}
-use mathlib.Core.Bool.{Bool, not, _&&_, _||_, cond}
+use mathlib.Core.Bool.{Bool, _&&_, _||_, cond}
 use lib.Dec.{eqb, ltb}
 use Rattle.words.specs.Loops.{allBelow}
 use Rattle.table.specs.Rows.{goodItemIn?}

@@ -2,7 +2,7 @@
 ghost use mathlib.Core.Path.{_≡_};
 ghost use Prim.Native.Nat.{ℕ, _*_, _<_, _≤_};
 ghost use lib.ListN.{length};
-ghost use Rattle.flat.specs.View.{flatView};
+ghost use Rattle.flat.specs.View.{flatView, guardAt};
 ghost use Rattle.flat.specs.Readable.{FlatReadable};
 ghost use Rattle.flat_rules.specs.Rules.{FlatRules};
 ghost use Rattle.guards.specs.Names.{Names};
@@ -33,19 +33,20 @@ fn does_hold(t: &[u16], current: &[u16], vars: &[u16], marks: &[u16], literal: F
     }
 }
 
-// Whether all literals of guard k hold.
-fn do_all_hold(t: &[u16], current: &[u16], vars: &[u16], marks: &[u16], k: usize) -> bool
-    requires { ⌜ FlatRules (now t) × (k < flatView (now t) .guards) ⌝ }
+// Whether all literals of guard k hold, whose words begin at `at`.
+fn do_all_hold(t: &[u16], current: &[u16], vars: &[u16], marks: &[u16], k: usize, at: usize) -> bool
+    requires { ⌜ FlatRules (now t) × (k < flatView (now t) .guards) × (at ≡ guardAt (now t) k) ⌝ }
     ensures { λ r. ⌜ r ≡ allHold (flatView (now (t .entry))) (now (current .entry)) (now (vars .entry)) (marked (now (marks .entry))) k ⌝ }
 {
-    let at = flat::guard_at(t, k);
     let mut i = words::number_in(t, at);
+    let mut place = flat::head(t, flat::LITERALS_AT) + 3 * i;
     let mut left = words::number_in(t, at + 1);
     while 0 < left {
-        if !does_hold(t, current, vars, marks, flat::literal_at(t, i)) {
+        if !does_hold(t, current, vars, marks, flat::literal_at(t, i, place)) {
             return false;
         }
         i += 1;
+        place += 3;
         left -= 1;
     }
     true
@@ -59,9 +60,11 @@ pub fn evaluate(t: &[u16], current: &[u16], vars: &[u16], marks: &mut [u16])
     copies::clear(marks, 0);
     let guards = flat::head(t, flat::GUARDS);
     let mut k = 0;
+    let mut at = flat::head(t, flat::GUARDS_AT);
     while k < guards {
-        let b = do_all_hold(t, current, vars, marks, k);
+        let b = do_all_hold(t, current, vars, marks, k, at);
         marks::mark(marks, k, b);
         k += 1;
+        at += 2;
     }
 }

@@ -11,6 +11,7 @@ use Rattle.words.specs.Loops.{joinUp, rank, when}
 use Rattle.words.proofs.Tests.{by-bool}
 use Rattle.words.proofs.Ranks.{rank-lt, rank-length}
 use Rattle.chart.specs.View.{Chart}
+use Rattle.states.proofs.Skip.{join-skip, rank-skip}
 use Rattle.meaning.specs.Active.{actives, active}
 use Rattle.meaning.specs.Steps.{restWord}
 use Rattle.lent.specs.Laid.{laid}
@@ -47,6 +48,16 @@ module _ (p : ℕ → Bool) (f : ℕ → ℕ) (old : List ℕ) where
         place = rw t (l .place);
         words = rw t (l .words ∙ ap (λ (w : List ℕ). w ++ drop (rank p o) old) (sym (append-nil (front o))));
       })
+
+  -- numbers that do not pass lay nothing
+  pub lay-skip : (k o at : ℕ) (state : List ℕ) → k ≤ o → ((j : ℕ) → k ≤ j → j < o → p j ≡ false) → Front k at state
+      → Front o at state
+  lay-skip k o at state h none l =
+      let same = rank-skip p k o h none in
+      record {
+        place = l .place ∙ sym same;
+        words = rw (same, join-skip (λ j. when (p j) (f j)) k o h (λ j g u. rw (none j g u) refl)) (l .words);
+      }
 
   -- the words are as many as before
   pub front-length : (o at : ℕ) (state : List ℕ) → rank p o ≤ length old → Front o at state → length state ≡ length old

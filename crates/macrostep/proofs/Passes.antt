@@ -5,7 +5,6 @@ use mathlib.Core.Path.{_≡_, refl, sym, ap, ap₂, _∙_, subst}
 use mathlib.Core.Bool.{true, false}
 use mathlib.Core.List.{List, [], _∷_, _++_}
 use native.Mathlib.Omega.{arith}
-use borrow.Author.Tests.{le-leb}
 use lib.Dec.{ltb, leb, leb→le, nleb→lt}
 use lib.ListN.{length, take, drop, set, length-set, take-append-drop}
 use lib.Seq.{length-take-le, length-front, set-append-left, take-take, drop-at}
@@ -15,17 +14,18 @@ use Rattle.effects.specs.Run.{Result, ok, St, written, macrostep}
 use Rattle.effects.specs.Lent.{roomFor}
 use Rattle.effects.specs.Work.{Going, going, fresh, stopped?, turns}
 use Rattle.effects.proofs.Same.{Bounded, Done, Outcome, done, refused, same}
+use Rattle.states.specs.declared.StateSet.{StateSet}
 use Rattle.meaning.proofs.Small.{machine-small}
 use Rattle.flat_meaning.proofs.Small.{flat-machine-small}
 use Rattle.macrostep.specs.declared.Form.{Form}
 use Rattle.macrostep.specs.declared.Form.the-variants.{Chart, Flat}
 use Rattle.macrostep.specs.Forms.{machineOf, eventsOf, Ready}
-use Rattle.macrostep.specs.Ends.{told?, handed, Ended, Halted, Ends, ended, halted}
+use Rattle.macrostep.specs.Ends.{told?, handed, Ends, ended, halted}
 
 -- no microstep has more than 10,000 steps
-form-small : (form : Form) (t own : List ℕ) → Ready t own form → Bounded 10000 (machineOf form t)
-form-small Chart t own r = machine-small (r .0)
-form-small Flat t own r = flat-machine-small (r .0)
+form-small : (form : Form) (t own : List ℕ) (ors : StateSet) → Ready t own ors form → Bounded 10000 (machineOf form t)
+form-small Chart t own ors r = machine-small (r .0)
+form-small Flat t own ors r = flat-machine-small (r .0)
 
 -- the room for outputs is at most 256 pairs, and the words lent hold it
 room-few : (l : ℕ) → roomFor l ≤ 256
@@ -139,7 +139,7 @@ module _ (form : Form) (t state o : List ℕ) (room first k : ℕ) where
       let over : k < 2 * g .does .n .outs = nleb→lt (2 * g .does .n .outs) k (rw more tt) in
       absurd (omega (arith, over, z, d .outs-count, d .outs-few))
 
-module _ (form : Form) (t own state o : List ℕ) (e i first : ℕ) (ready : Ready t own form) (lends : first ≤ length o) where
+module _ (form : Form) (t own state o : List ℕ) (ors : StateSet) (e i first : ℕ) (ready : Ready t own ors form) (lends : first ≤ length o) where
   abbrev meant : Result St
   meant = macrostep (eventsOf t) (roomFor (length o)) (machineOf form t) e (take i state) (drop i state)
 
@@ -155,7 +155,7 @@ module _ (form : Form) (t own state o : List ℕ) (e i first : ℕ) (ready : Rea
         rw (is, same-words, same-outs) refl in
         subst (Outcome (roomFor (length o)) (take k o) meant) (sym (pass ∙ alike))
         (same (eventsOf t) (roomFor (length o)) (machineOf form t) e (take i state) (drop i state) (take k o) queue
-        (form-small form t own ready) (room-few (length o)) long)
+        (form-small form t own ors ready) (room-few (length o)) long)
 
     pub told-pass : told? n k ≡ true → Ends form t state o n (handed form t n words vars state) (part ++ drop k outs) meant
     told-pass h = rw same-outs (told-ends form t state o (roomFor (length o)) first k (before-fits lends before) came h)

@@ -1,5 +1,5 @@
 -- The two forms of tables that a macrostep goes through: one machine each.
-use Prim.Native.Nat.{ℕ, _+_, _*_, _≤_}
+use Prim.Native.Nat.{ℕ, _*_, _≤_}
 use mathlib.Core.Path.{_≡_}
 use mathlib.Core.List.{List}
 use lib.ListN.{length, getD}
@@ -8,7 +8,9 @@ use Rattle.chart.specs.View.{view}
 use Rattle.chart_rules.specs.Rules.{ChartRules}
 use Rattle.meaning.specs.Steps.{chartMachine, rest}
 use Rattle.meaning.specs.State.{orStates}
-use Rattle.active.specs.Ranks.{Ranks}
+use Rattle.states.specs.Cells.{cells}
+use Rattle.states.specs.declared.StateSet.{StateSet}
+use Rattle.active.specs.Ors.{Ors}
 use Rattle.flat.specs.View.{flatView}
 use Rattle.flat_rules.specs.Rules.{FlatRules}
 use Rattle.flat_meaning.specs.Steps.{flatMachine}
@@ -33,8 +35,8 @@ abbrev pub atRest : Form → List ℕ → List ℕ → List ℕ
 atRest Chart t words = rest (view t) words
 atRest Flat t words = words
 
--- A table is accepted, and `own` is the space that its form needs for itself: the places of a chart's or-states, with space for
--- the words at a microstep's start behind them, or a bit for each guard of a flat table.
-abbrev pub Ready : List ℕ → List ℕ → Form → Type 0
-Ready t own Chart = ChartRules t × Ranks (view t) own × (48 + orStates (view t) ≡ length own)
-Ready t own Flat = FlatRules t × (flatView t .guards ≤ 16 * length own)
+-- A table is accepted, `ors` are a chart's or-states, and `own` is the space that its form needs for itself: the words at a
+-- microstep's start, or a bit for each guard of a flat table.
+abbrev pub Ready : List ℕ → List ℕ → StateSet → Form → Type 0
+Ready t own ors Chart = ChartRules t × Ors (view t) (cells ors) × (orStates (view t) ≡ length own)
+Ready t own ors Flat = FlatRules t × (flatView t .guards ≤ 16 * length own)

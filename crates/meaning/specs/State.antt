@@ -1,8 +1,8 @@
 -- Lent states: how long they are, when they are states of a chart, and the start state.
 use Prim.Native.Nat.{ℕ, _+_}
-use mathlib.Core.Bool.{Bool, true, false, not, _&&_, _||_, cond}
+use mathlib.Core.Bool.{Bool, not, _&&_, _||_, cond}
 use mathlib.Core.List.{List, _++_}
-use lib.ListN.{length, getD, take, drop}
+use lib.ListN.{length, take, drop}
 use lib.Dec.{eqb}
 use Rattle.words.specs.Loops.{joinUp, allBelow, rank, when}
 use Rattle.effects.specs.Lent.{zeros}

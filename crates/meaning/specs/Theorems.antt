@@ -4,7 +4,7 @@ use Prim.Native.Nat.{ℕ, zero, suc, _<_}
 use mathlib.Core.Path.{_≡_}
 use mathlib.Core.Logic.{_≢_, _⊎_}
 use mathlib.Core.Bool.{Bool, true, false, cond}
-use mathlib.Core.List.{List, [], _∷_, _++_, List·Memᴰ}
+use mathlib.Core.List.{List, [], _++_, List·Memᴰ}
 use lib.ListN.{getD}
 use Rattle.effects.specs.Run.{Step, setAll, setsOf}
 use Rattle.chart.specs.View.{Chart, view, IsAnd, IsOr, childOf?}

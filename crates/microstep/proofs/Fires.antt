@@ -1,7 +1,7 @@
 -- The steps of a transition and of a microstep, as the code goes through them. Assumes nothing.
 use Prim.Native.Nat.{ℕ, zero, suc, _<_}
 use mathlib.Core.Path.{_≡_, refl, sym, ap, ap₂, _∙_}
-use mathlib.Core.Bool.{Bool, true, false, _&&_, cond, and-comm}
+use mathlib.Core.Bool.{Bool, true, false, _&&_, and-comm}
 use mathlib.Core.List.{List, [], _∷_, _++_}
 use native.Mathlib.Omega.{arith}
 use native.Mathlib.Decide.{decLt}
@@ -15,9 +15,9 @@ use Rattle.effects.specs.Work.{Going, doStep, doSteps}
 use Rattle.effects.proofs.Stops.{doSteps-append}
 use Rattle.chart.specs.View.{Chart, view, isAnd}
 use Rattle.chart_rules.specs.Rules.{ChartRules}
-use Rattle.meaning.specs.Scope.{beneath, scope, scoped}
+use Rattle.meaning.specs.Scope.{scope, scoped}
 use Rattle.meaning.specs.Entered.{enteredAt, entereds}
-use Rattle.meaning.specs.Steps.{leaveStep, takeStep, enterStep, left?, leaves, enters, fires}
+use Rattle.meaning.specs.Steps.{takeStep, enterStep, left?, leaves, enters, fires}
 use Rattle.entered.proofs.Entered.{and-parent}
 use Rattle.moves.specs.Below.{leftBelow, leavesBelow, entersAll}
 

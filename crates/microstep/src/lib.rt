@@ -13,7 +13,7 @@ ghost use Rattle.states.specs.Cells.{cells};
 ghost use Rattle.meaning.specs.Scope.{scope};
 ghost use Rattle.meaning.specs.Entered.{entereds};
 ghost use Rattle.meaning.specs.Steps.{takeStep, fires, chartMachine};
-ghost use Rattle.active.specs.Ranks.{Ranks};
+ghost use Rattle.active.specs.Ors.{Ors};
 ghost use Rattle.moves.specs.Below.{leavesBelow, entersAll};
 use effects::Progress;
 use states::StateSet;
@@ -22,6 +22,7 @@ use table::Trigger;
 // The states below `top` that were active are left, and transition k's own items run.
 fn leave_and_take(
     t: &[u16],
+    ors: StateSet,
     top: usize,
     acts: StateSet,
     k: usize,
@@ -31,17 +32,17 @@ fn leave_and_take(
     queue: &mut [u16],
     n: Progress,
 ) -> Progress
-    requires { ⌜ ChartRules (now t) × (k < view (now t) .transitions) ⌝ }
+    requires { ⌜ ChartRules (now t) × Ors (view (now t)) (cells ors) × (k < view (now t) .transitions) ⌝ }
     ensures { λ r. ⌜ ((next : List ℕ) → going r next (now (vars .exit)) (now (outs .exit)) (now (queue .exit)) ≡ doStep room (takeStep (view (now (t .entry))) k) (doSteps room (leavesBelow (view (now (t .entry))) (cells acts) top) (going n next (now (vars .entry)) (now (outs .entry)) (now (queue .entry))))) ⌝ }
 {
-    let m = moves::leave_all(t, top, acts, room, vars, outs, queue, n);
+    let m = moves::leave_all(t, ors, top, acts, room, vars, outs, queue, n);
     moves::take_own(t, k, room, vars, outs, queue, m)
 }
 
 // The states that transition k enters, whose scope is `top`.
 fn enter(
     t: &[u16],
-    ranks: &[u16],
+    ors: StateSet,
     current: &[u16],
     k: usize,
     top: usize,
@@ -52,17 +53,17 @@ fn enter(
     queue: &mut [u16],
     n: Progress,
 ) -> Progress
-    requires { ⌜ ChartRules (now t) × Ranks (view (now t)) (now ranks) × (k < view (now t) .transitions) × (top ≡ scope (view (now t)) k) ⌝ }
+    requires { ⌜ ChartRules (now t) × Ors (view (now t)) (cells ors) × (k < view (now t) .transitions) × (top ≡ scope (view (now t)) k) ⌝ }
     ensures { λ r. ⌜ going r (now (next .exit)) (now (vars .exit)) (now (outs .exit)) (now (queue .exit)) ≡ doSteps room (entersAll (view (now (t .entry))) (entereds (view (now (t .entry))) (now (current .entry)) k)) (going n (now (next .entry)) (now (vars .entry)) (now (outs .entry)) (now (queue .entry))) ⌝ }
 {
-    let entered = entered::entered_set(t, ranks, current, k, top);
-    moves::enter_all(t, ranks, entered, room, next, vars, outs, queue, n)
+    let entered = entered::entered_set(t, ors, current, k, top);
+    moves::enter_all(t, ors, entered, room, next, vars, outs, queue, n)
 }
 
 // Transition k is carried out: states are left, its own items run, states are entered. Without targets only its items run.
 fn fire(
     t: &[u16],
-    ranks: &[u16],
+    ors: StateSet,
     current: &[u16],
     acts: StateSet,
     k: usize,
@@ -73,45 +74,21 @@ fn fire(
     queue: &mut [u16],
     n: Progress,
 ) -> Progress
-    requires { ⌜ ChartRules (now t) × Ranks (view (now t)) (now ranks) × (k < view (now t) .transitions) ⌝ }
+    requires { ⌜ ChartRules (now t) × Ors (view (now t)) (cells ors) × (k < view (now t) .transitions) ⌝ }
     ensures { λ r. ⌜ going r (now (next .exit)) (now (vars .exit)) (now (outs .exit)) (now (queue .exit)) ≡ doSteps room (fires (view (now (t .entry))) (now (current .entry)) (cells acts) k) (going n (now (next .entry)) (now (vars .entry)) (now (outs .entry)) (now (queue .entry))) ⌝ }
 {
     if !taken::is_scoped(t, k) {
         return moves::take_own(t, k, room, vars, outs, queue, n);
     }
     let top = taken::scope_of(t, k);
-    let m = leave_and_take(t, top, acts, k, room, vars, outs, queue, n);
-    enter(t, ranks, current, k, top, room, next, vars, outs, queue, m)
-}
-
-// Transition k is carried out, where it is taken.
-fn fire_taken(
-    t: &[u16],
-    ranks: &[u16],
-    current: &[u16],
-    acts: StateSet,
-    taken: StateSet,
-    k: usize,
-    room: usize,
-    next: &mut [u16],
-    vars: &mut [u16],
-    outs: &mut [u16],
-    queue: &mut [u16],
-    n: Progress,
-) -> Progress
-    requires { ⌜ ChartRules (now t) × Ranks (view (now t)) (now ranks) × (k < view (now t) .transitions) ⌝ }
-    ensures { λ r. ⌜ going r (now (next .exit)) (now (vars .exit)) (now (outs .exit)) (now (queue .exit)) ≡ doSteps room (cond (getD (cells taken) k false) (fires (view (now (t .entry))) (now (current .entry)) (cells acts) k) []) (going n (now (next .entry)) (now (vars .entry)) (now (outs .entry)) (now (queue .entry))) ⌝ }
-{
-    if !states::has_in(taken, k) {
-        return n;
-    }
-    fire(t, ranks, current, acts, k, room, next, vars, outs, queue, n)
+    let m = leave_and_take(t, ors, top, acts, k, room, vars, outs, queue, n);
+    enter(t, ors, current, k, top, room, next, vars, outs, queue, m)
 }
 
 // The transitions of `taken`, in rising number.
 fn fire_all(
     t: &[u16],
-    ranks: &[u16],
+    ors: StateSet,
     current: &[u16],
     acts: StateSet,
     taken: StateSet,
@@ -122,28 +99,15 @@ fn fire_all(
     queue: &mut [u16],
     n: Progress,
 ) -> Progress
-    requires { ⌜ ChartRules (now t) × Ranks (view (now t)) (now ranks) ⌝ }
+    requires { ⌜ ChartRules (now t) × Ors (view (now t)) (cells ors) ⌝ }
     ensures { λ r. ⌜ going r (now (next .exit)) (now (vars .exit)) (now (outs .exit)) (now (queue .exit)) ≡ doSteps room (joinUp (λ k. cond (getD (cells taken) k false) (fires (view (now (t .entry))) (now (current .entry)) (cells acts) k) []) (view (now (t .entry)) .transitions)) (going n (now (next .entry)) (now (vars .entry)) (now (outs .entry)) (now (queue .entry))) ⌝ }
 {
     let transitions = chart::head(t, chart::TRANSITIONS);
     let mut m = n;
-    let mut k = 0;
+    let mut k = states::next(taken, 0, transitions);
     while k < transitions {
-        m = fire_taken(
-            t,
-            ranks,
-            current,
-            acts,
-            taken,
-            k,
-            room,
-            next,
-            vars,
-            outs,
-            queue,
-            m,
-        );
-        k += 1;
+        m = fire(t, ors, current, acts, k, room, next, vars, outs, queue, m);
+        k = states::next(taken, k + 1, transitions);
     }
     m
 }
@@ -151,7 +115,7 @@ fn fire_all(
 // One microstep for trigger e. `current` are the state words at its start; `next` is to be current at its end.
 pub fn run(
     t: &[u16],
-    ranks: &[u16],
+    ors: StateSet,
     current: &[u16],
     e: Trigger,
     room: usize,
@@ -161,14 +125,14 @@ pub fn run(
     queue: &mut [u16],
     n: Progress,
 ) -> Progress
-    requires { ⌜ ChartRules (now t) × Ranks (view (now t)) (now ranks) ⌝ }
+    requires { ⌜ ChartRules (now t) × Ors (view (now t)) (cells ors) ⌝ }
     ensures { λ r. ⌜ going r (now (next .exit)) (now (vars .exit)) (now (outs .exit)) (now (queue .exit)) ≡ doSteps room (chartMachine (view (now (t .entry))) (e .0) (now (current .entry)) (now (vars .entry))) (going n (now (next .entry)) (now (vars .entry)) (now (outs .entry)) (now (queue .entry))) ⌝ }
 {
-    let acts = active::active_set(t, ranks, current);
+    let acts = active::active_set(t, ors, current);
     let taken = taken::taken_set(t, effects::wide(e.0), acts, vars);
     fire_all(
         t,
-        ranks,
+        ors,
         current,
         acts,
         taken,

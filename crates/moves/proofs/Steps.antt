@@ -1,6 +1,6 @@
 -- The items that the code runs are those that a state or a transition has. Assumes nothing.
 use Prim.Native.Nat.{ℕ}
-use mathlib.Core.Path.{_≡_, refl, ap, _∙_}
+use mathlib.Core.Path.{_≡_, ap}
 use mathlib.Core.List.{List}
 use Rattle.table.specs.Span.{Span, spanAt}
 use Rattle.effects.specs.Work.{spanItems}

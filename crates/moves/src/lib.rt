@@ -9,28 +9,17 @@ ghost use Rattle.effects.specs.Work.{going, doStep, doSteps};
 ghost use Rattle.chart.specs.View.{view};
 ghost use Rattle.chart_rules.specs.Rules.{ChartRules};
 ghost use Rattle.states.specs.Cells.{cells};
+ghost use Rattle.meaning.specs.Scope.{beneath};
 ghost use Rattle.meaning.specs.Steps.{leaveStep, takeStep, enterStep};
-ghost use Rattle.active.specs.Ranks.{Ranks};
-ghost use Rattle.moves.specs.Below.{leftBelow, leavesBelow, entersAll};
+ghost use Rattle.active.specs.Ors.{Ors};
+ghost use Rattle.moves.specs.Below.{leavesBelow, entersAll};
 use effects::Progress;
 use states::StateSet;
 
-// Whether state j is to be left: an and-state that was active, below `top`, the scope.
-fn is_left(t: &[u16], top: usize, acts: StateSet, j: usize) -> bool
-    requires { ⌜ ChartRules (now t) × (j < view (now t) .states) ⌝ }
-    ensures { λ r. ⌜ r ≡ leftBelow (view (now (t .entry))) (cells acts) top j ⌝ }
-{
-    if !words::both(chart::is_and(t, j), states::has_in(acts, j)) {
-        return false;
-    }
-    active::is_beneath(t, top, j)
-}
-
-// State j is left, where it is to be: its exit items run.
+// And-state j, which was active, is left, where it is below `top`, the scope: its exit items run.
 fn leave_one(
     t: &[u16],
     top: usize,
-    acts: StateSet,
     j: usize,
     room: usize,
     vars: &mut [u16],
@@ -39,9 +28,9 @@ fn leave_one(
     n: Progress,
 ) -> Progress
     requires { ⌜ ChartRules (now t) × (j < view (now t) .states) ⌝ }
-    ensures { λ r. ⌜ ((next : List ℕ) → going r next (now (vars .exit)) (now (outs .exit)) (now (queue .exit)) ≡ doSteps room (when (leftBelow (view (now (t .entry))) (cells acts) top j) (leaveStep (view (now (t .entry))) j)) (going n next (now (vars .entry)) (now (outs .entry)) (now (queue .entry)))) ⌝ }
+    ensures { λ r. ⌜ ((next : List ℕ) → going r next (now (vars .exit)) (now (outs .exit)) (now (queue .exit)) ≡ doSteps room (when (beneath (view (now (t .entry))) top j) (leaveStep (view (now (t .entry))) j)) (going n next (now (vars .entry)) (now (outs .entry)) (now (queue .entry)))) ⌝ }
 {
-    if !is_left(t, top, acts, j) {
+    if !active::is_beneath(t, top, j) {
         return n;
     }
     effects::run_span(
@@ -56,9 +45,10 @@ fn leave_one(
     )
 }
 
-// The states below `top` that were active are left, in falling number.
+// The and-states below `top` that were active are left, in falling number.
 pub fn leave_all(
     t: &[u16],
+    ors: StateSet,
     top: usize,
     acts: StateSet,
     room: usize,
@@ -67,23 +57,24 @@ pub fn leave_all(
     queue: &mut [u16],
     n: Progress,
 ) -> Progress
-    requires { ⌜ ChartRules (now t) ⌝ }
+    requires { ⌜ ChartRules (now t) × Ors (view (now t)) (cells ors) ⌝ }
     ensures { λ r. ⌜ ((next : List ℕ) → going r next (now (vars .exit)) (now (outs .exit)) (now (queue .exit)) ≡ doSteps room (leavesBelow (view (now (t .entry))) (cells acts) top) (going n next (now (vars .entry)) (now (outs .entry)) (now (queue .entry)))) ⌝ }
 {
+    let ands = states::except(acts, ors);
     let mut m = n;
-    let mut j = chart::head(t, chart::STATES);
+    let mut j = states::last(ands, chart::head(t, chart::STATES));
     while 0 < j {
         j -= 1;
-        m = leave_one(t, top, acts, j, room, vars, outs, queue, m);
+        m = leave_one(t, top, j, room, vars, outs, queue, m);
+        j = states::last(ands, j);
     }
     m
 }
 
-// State j is entered, where `entered` has it: it is to be current, and its entry items run.
+// State j is entered: it is to be current, and its entry items run.
 fn enter_one(
     t: &[u16],
-    ranks: &[u16],
-    entered: StateSet,
+    ors: StateSet,
     j: usize,
     room: usize,
     next: &mut [u16],
@@ -92,14 +83,11 @@ fn enter_one(
     queue: &mut [u16],
     n: Progress,
 ) -> Progress
-    requires { ⌜ ChartRules (now t) × (j < view (now t) .states) × Ranks (view (now t)) (now ranks) × (getD (cells entered) j false ≡ true → view (now t) .parent j < view (now t) .states) ⌝ }
-    ensures { λ r. ⌜ going r (now (next .exit)) (now (vars .exit)) (now (outs .exit)) (now (queue .exit)) ≡ doSteps room (when (getD (cells entered) j false) (enterStep (view (now (t .entry))) j)) (going n (now (next .entry)) (now (vars .entry)) (now (outs .entry)) (now (queue .entry))) ⌝ }
+    requires { ⌜ ChartRules (now t) × (j < view (now t) .states) × Ors (view (now t)) (cells ors) × (view (now t) .parent j < view (now t) .states) ⌝ }
+    ensures { λ r. ⌜ going r (now (next .exit)) (now (vars .exit)) (now (outs .exit)) (now (queue .exit)) ≡ doStep room (enterStep (view (now (t .entry))) j) (going n (now (next .entry)) (now (vars .entry)) (now (outs .entry)) (now (queue .entry))) ⌝ }
 {
-    if !states::has_in(entered, j) {
-        return n;
-    }
     let o = chart::state_word(t, j, chart::PARENT);
-    words::put(next, words::number(ranks, o), j as u16);
+    words::put(next, active::rank_of(t, ors, o), j as u16);
     effects::run_span(
         t,
         chart::ITEMS_AT,
@@ -115,7 +103,7 @@ fn enter_one(
 // The states of `entered` are entered, in rising number.
 pub fn enter_all(
     t: &[u16],
-    ranks: &[u16],
+    ors: StateSet,
     entered: StateSet,
     room: usize,
     next: &mut [u16],
@@ -124,15 +112,15 @@ pub fn enter_all(
     queue: &mut [u16],
     n: Progress,
 ) -> Progress
-    requires { ⌜ ChartRules (now t) × Ranks (view (now t)) (now ranks) × ((j : ℕ) → getD (cells entered) j false ≡ true → view (now t) .parent j < view (now t) .states) ⌝ }
+    requires { ⌜ ChartRules (now t) × Ors (view (now t)) (cells ors) × ((j : ℕ) → getD (cells entered) j false ≡ true → view (now t) .parent j < view (now t) .states) ⌝ }
     ensures { λ r. ⌜ going r (now (next .exit)) (now (vars .exit)) (now (outs .exit)) (now (queue .exit)) ≡ doSteps room (entersAll (view (now (t .entry))) (cells entered)) (going n (now (next .entry)) (now (vars .entry)) (now (outs .entry)) (now (queue .entry))) ⌝ }
 {
     let states = chart::head(t, chart::STATES);
     let mut m = n;
-    let mut j = 0;
+    let mut j = states::next(entered, 0, states);
     while j < states {
-        m = enter_one(t, ranks, entered, j, room, next, vars, outs, queue, m);
-        j += 1;
+        m = enter_one(t, ors, j, room, next, vars, outs, queue, m);
+        j = states::next(entered, j + 1, states);
     }
     m
 }

@@ -6,45 +6,47 @@ ghost use lib.ListN.{length};
 ghost use Rattle.words.specs.Loops.{when};
 ghost use Rattle.effects.specs.Run.{setAll};
 ghost use Rattle.effects.specs.Work.{going, doSteps};
-ghost use Rattle.flat.specs.View.{flatView};
+ghost use Rattle.flat.specs.View.{flatView, ruleAt};
 ghost use Rattle.flat.specs.Readable.{FlatReadable};
 ghost use Rattle.flat_rules.specs.Rules.{FlatRules};
 ghost use Rattle.flat_meaning.specs.Steps.{targetSet, ruleStep, fires?, firing, flatMachine};
 ghost use Rattle.marks.specs.Bits.{marked};
 use effects::Progress;
 use table::Trigger;
+use words::number_in;
 
-// Whether rule k fires for trigger e, where `marks` has the guards that are true.
-fn does_fire(t: &[u16], marks: &[u16], e: usize, k: usize) -> bool
-    requires { ⌜ FlatReadable (now t) × (k < flatView (now t) .rules) ⌝ }
+// Whether rule k, whose words begin at `at`, fires for trigger e, where `marks` has the guards that are true.
+fn does_fire(t: &[u16], marks: &[u16], e: usize, k: usize, at: usize) -> bool
+    requires { ⌜ FlatReadable (now t) × (k < flatView (now t) .rules) × (at ≡ ruleAt (now t) k) ⌝ }
     ensures { λ r. ⌜ r ≡ fires? (flatView (now (t .entry))) e (marked (now (marks .entry))) k ⌝ }
 {
-    if flat::rule_word(t, k, flat::TRIGGER) != e {
+    if number_in(t, at + flat::TRIGGER) != e {
         return false;
     }
-    if !marks::has(marks, flat::rule_word(t, k, flat::FIRST_GUARD)) {
+    if !marks::has(marks, number_in(t, at + flat::FIRST_GUARD)) {
         return false;
     }
-    marks::has(marks, flat::rule_word(t, k, flat::SECOND_GUARD))
+    marks::has(marks, number_in(t, at + flat::SECOND_GUARD))
 }
 
-// Rule k's target is to be current in its machine, where it has one.
-fn aim(t: &[u16], k: usize, next: &mut [u16])
-    requires { ⌜ FlatRules (now t) × (k < flatView (now t) .rules) ⌝ }
+// The target of rule k, whose words begin at `at`, is to be current in its machine, where it has one.
+fn aim(t: &[u16], k: usize, at: usize, next: &mut [u16])
+    requires { ⌜ FlatRules (now t) × (k < flatView (now t) .rules) × (at ≡ ruleAt (now t) k) ⌝ }
     ensures { λ r. ⌜ now (next .exit) ≡ setAll (targetSet (flatView (now (t .entry))) k) (now (next .entry)) ⌝ }
 {
-    let j = flat::rule_word(t, k, flat::TARGET);
+    let j = number_in(t, at + flat::TARGET);
     if j != flat::NONE {
         words::put(next, flat::machine_of(t, j), j as u16);
     }
 }
 
-// Rule k, where it fires: it is counted, its target is to be current, and its items run.
+// Rule k, whose words begin at `at`, where it fires: it is counted, its target is to be current, and its items run.
 fn fire_one(
     t: &[u16],
     marks: &[u16],
     e: usize,
     k: usize,
+    at: usize,
     room: usize,
     next: &mut [u16],
     vars: &mut [u16],
@@ -52,17 +54,17 @@ fn fire_one(
     queue: &mut [u16],
     n: Progress,
 ) -> Progress
-    requires { ⌜ FlatRules (now t) × (k < flatView (now t) .rules) ⌝ }
+    requires { ⌜ FlatRules (now t) × (k < flatView (now t) .rules) × (at ≡ ruleAt (now t) k) ⌝ }
     ensures { λ r. ⌜ going r (now (next .exit)) (now (vars .exit)) (now (outs .exit)) (now (queue .exit)) ≡ doSteps room (when (fires? (flatView (now (t .entry))) e (marked (now (marks .entry))) k) (ruleStep (flatView (now (t .entry))) k)) (going n (now (next .entry)) (now (vars .entry)) (now (outs .entry)) (now (queue .entry))) ⌝ }
 {
-    if !does_fire(t, marks, e, k) {
+    if !does_fire(t, marks, e, k, at) {
         return n;
     }
-    aim(t, k, next);
+    aim(t, k, at, next);
     effects::run_span(
         t,
         flat::ITEMS_AT,
-        flat::rule_at(t, k) + flat::DOES,
+        at + flat::DOES,
         room,
         vars,
         outs,
@@ -88,10 +90,13 @@ fn fire_all(
 {
     let rules = flat::head(t, flat::RULES);
     let mut m = n;
-    let mut k = 0;
-    while k < rules {
-        m = fire_one(t, marks, e, k, room, next, vars, outs, queue, m);
-        k += 1;
+    let mut at = flat::head(t, flat::RULES_AT);
+    let mut left = rules;
+    while 0 < left {
+        let k = rules - left;
+        m = fire_one(t, marks, e, k, at, room, next, vars, outs, queue, m);
+        at += 6;
+        left -= 1;
     }
     m
 }

@@ -1,10 +1,11 @@
 -- Laws of the bits of a set: a bit that is cleared, and one that is set or cleared as a cell of the set. Assumes nothing.
 use Prim.Native.Nat.{ℕ, zero, suc, _+_, _*_, _/_, _%_, _^_, _<_, _≤_}
 use native.Mathlib.Nat.{one-mul, add-zero, zero-add}
+use native.Mathlib.Decide.{decLt}
 use native.Mathlib.Omega.{arith}
 use mathlib.Core.Path.{_≡_, refl, sym, _∙_, ap, ap₂}
 use mathlib.Core.Bool.{Bool, false, true, not, _&&_, _||_, cond, Bool·beq}
-use mathlib.Core.List.{List, [], _∷_}
+use mathlib.Core.List.{List, _∷_}
 use lib.Dec.{eqb, lit<}
 use lib.ListN.{length, getD, set, List·getD-eq-default}
 use lib.Seq.{set-out}
@@ -18,7 +19,7 @@ use Rattle.marks.proofs.Bits.{bit-or, bit-pow}
 use Rattle.states.specs.Cells.{clearBit}
 
 -- the code's `1 << k`
-pub one-shl : (k : ℕ) → k < 48 → (1 * 2 ^ k) % 2 ^ 64 ≡ 2 ^ k
+pub one-shl : (k : ℕ) → k < 64 → (1 * 2 ^ k) % 2 ^ 64 ≡ 2 ^ k
 one-shl k h = shl-exact 1 k 64 (lit< tt) (omega arith) ∙ one-mul _
 
 -- ---- a bit that is set, and one that is cleared
@@ -57,6 +58,15 @@ set-bit m k j = bit-or m (2 ^ k) j ∙ rw (bit-pow k j) (set-digit (bitAt m j) (
 pub clear-bit : (m k j : ℕ) → bitAt (clearBit m k) j ≡ cond (eqb j k) false (bitAt m j)
 unfolding clearBit
 clear-bit m k j = bit-xor (bitOr m (2 ^ k)) (2 ^ k) j ∙ rw (bit-or m (2 ^ k) j, bit-pow k j) (clear-digit (bitAt m j) (eqb j k))
+
+except-digit : (a b : Bool) → not (Bool·beq (a || b) b) ≡ (a && not b)
+except-digit true true = refl
+except-digit true false = refl
+except-digit false true = refl
+except-digit false false = refl
+
+except-bit : (m o j : ℕ) → bitAt (bitXor (bitOr m o) o) j ≡ (bitAt m j && not (bitAt o j))
+except-bit m o j = bit-xor (bitOr m o) o j ∙ rw (bit-or m o j) (except-digit (bitAt m j) (bitAt o j))
 
 -- ---- cells
 module _ {A : Type 0} where
@@ -103,3 +113,17 @@ module _ (m k : ℕ) where
 
   pub cell-clear : (r : ℕ) → k < 48 → r ≡ clearBit m k → (b : Bool) → b ≡ false → many (bitAt r) 0 48 ≡ set (many (bitAt m) 0 48) k b
   cell-clear r h e b is = rw (e, is) (turned (clearBit m k) false h (clear-bit m k))
+
+-- the cells of one set without those of another
+pub cell-except : (m o j : ℕ)
+    → getD (many (bitAt (bitXor (bitOr m o) o)) 0 48) j false ≡ (getD (many (bitAt m) 0 48) j false && not (getD (many (bitAt o) 0 48) j false))
+cell-except m o j =
+    let r = bitXor (bitOr m o) o in
+    elim (decLt j 48) [
+      | yes h ↦
+          sym (cell-in r j (bitAt r j) h refl) ∙ except-bit m o j
+          ∙ ap₂ (λ (a b : Bool). a && not b) (cell-in m j (bitAt m j) h refl) (cell-in o j (bitAt o j) h refl)
+      | no h ↦
+          let out : 48 ≤ j = omega arith in
+          sym (cell-out r j out) ∙ ap₂ (λ (a b : Bool). a && not b) (cell-out m j out) (cell-out o j out)
+    ]

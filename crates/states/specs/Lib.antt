@@ -1,1 +1,3 @@
+-- `Cells`: what a set shows; `Next`: its members one after another.
 pub mod Cells
+pub mod Next

@@ -1,11 +1,13 @@
 // A set of numbers below 48: the states that are active or entered, the transitions that are taken. It is kept as the bits of
 // one 64-bit number, number k in bit k; that is known here alone. specs/Cells.antt says what a set shows.
 ghost use mathlib.Core.Path.{_≡_};
-ghost use mathlib.Core.Bool.{true, false};
-ghost use Prim.Native.Nat.{_<_};
+ghost use mathlib.Core.Bool.{true, false, not, _&&_};
+ghost use Prim.Native.Nat.{ℕ, _<_, _≤_};
 ghost use lib.ListN.{getD, set};
+ghost use Rattle.words.specs.Loops.{rank};
 ghost use Rattle.marks.specs.Bits.{bitAt, setBit};
 ghost use Rattle.states.specs.Cells.{clearBit, cells, noCells};
+ghost use Rattle.states.specs.Next.{Next, Last};
 
 pub struct StateSet {
     bits: u64,
@@ -99,10 +101,44 @@ pub fn with(s: StateSet, k: usize, b: bool) -> StateSet
     }
 }
 
+// The set without the numbers of another.
+pub fn except(s: StateSet, o: StateSet) -> StateSet
+    ensures { λ r. ⌜ ((j : ℕ) → getD (cells r) j false ≡ (getD (cells s) j false && not (getD (cells o) j false))) ⌝ }
+{
+    StateSet {
+        bits: (s.bits | o.bits) ^ o.bits,
+    }
+}
+
 // Whether two sets are the same.
 pub fn same(a: StateSet, b: StateSet) -> bool
     ensures alike { λ r. ⌜ (r ≡ true → cells a ≡ cells b) ⌝ }
     ensures other { λ r. ⌜ (a ≡ b → r ≡ true) ⌝ }
 {
     a.bits == b.bits
+}
+
+// The lowest number of the set from k on, below n; n where there is none.
+pub fn next(s: StateSet, k: usize, n: usize) -> usize
+    requires { ⌜ (k ≤ n) × (n ≤ 48) ⌝ }
+    ensures { λ r. ⌜ Next (cells s) k n r ⌝ }
+{
+    let r = k + u64::trailing_zeros(s.bits >> k) as usize;
+    if r < n { r } else { n }
+}
+
+// One more than the highest number of the set below k; 0 where there is none.
+pub fn last(s: StateSet, k: usize) -> usize
+    requires { ⌜ k ≤ 48 ⌝ }
+    ensures { λ r. ⌜ Last (cells s) k r ⌝ }
+{
+    64 - u64::leading_zeros(s.bits & ((1u64 << k) - 1)) as usize
+}
+
+// How many numbers of the set are below k.
+pub fn count_below(s: StateSet, k: usize) -> usize
+    requires { ⌜ k ≤ 48 ⌝ }
+    ensures { λ r. ⌜ r ≡ rank (λ j. getD (cells s) j false) k ⌝ }
+{
+    u64::count_ones(s.bits & ((1u64 << k) - 1)) as usize
 }

@@ -42,8 +42,11 @@ rows =
 abbrev pub rowOf : ℕ → Row
 rowOf k = getD rows k (record { a = Zero; b = Zero })
 
+abbrev pub inRow : Row → Counts → ℕ → ℕ → Bool
+inRow r n a b = inRange (r .a) n a && inRange (r .b) n b
+
 unfoldable pub goodItem? : Counts → ℕ → ℕ → ℕ → Bool
-goodItem? n k a b = ltb k 6 && (inRange (rowOf k .a) n a && inRange (rowOf k .b) n b)
+goodItem? n k a b = ltb k 6 && inRow (rowOf k) n a b
 
 abbrev pub goodItemIn? : Counts → Triple → Bool
 goodItemIn? n w = goodItem? n (w .kind) (w .a) (w .b)

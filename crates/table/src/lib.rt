@@ -6,7 +6,7 @@ ghost use lib.ListN.{length, getD};
 ghost use Rattle.table.specs.Numbers.{triggerOf};
 ghost use Rattle.table.specs.Triple.{tripleAt};
 ghost use Rattle.table.specs.Items.{itemOf, itemIn};
-ghost use Rattle.table.specs.Rows.{inRange, rowOf, goodItem?, goodItemIn?};
+ghost use Rattle.table.specs.Rows.{inRange, inRow, rowOf, goodItem?, goodItemIn?};
 ghost use Rattle.words.specs.Loops.{between?};
 ghost use Rattle.table.specs.Layout.{follows?};
 ghost use Rattle.table.specs.Span.{spanAt, inside?};
@@ -131,20 +131,31 @@ fn row_of(kind: usize) -> Row
     ROWS[kind]
 }
 
-// Whether three words are an item of a table with these counts.
-fn good_item(kind: u16, a: u16, b: u16, n: Counts) -> bool
-    ensures { λ r. ⌜ r ≡ goodItem? n kind a b ⌝ }
+// Whether two fields obey the ranges of a row.
+fn in_row(row: Row, n: Counts, a: u16, b: u16) -> bool
+    ensures { λ r. ⌜ r ≡ inRow row n a b ⌝ }
 {
-    if 6 <= kind {
-        return false;
-    }
-    let row = row_of(kind as usize);
     let x = row.a;
     let y = row.b;
     if !in_range(x, n, a) {
         return false;
     }
     in_range(y, n, b)
+}
+
+// Whether three words are an item of a table with these counts. Each kind has a case of its own, so that its row is known there.
+fn good_item(kind: u16, a: u16, b: u16, n: Counts) -> bool
+    ensures { λ r. ⌜ r ≡ goodItem? n kind a b ⌝ }
+{
+    match kind {
+        0 => in_row(row_of(0), n, a, b),
+        1 => in_row(row_of(1), n, a, b),
+        2 => in_row(row_of(2), n, a, b),
+        3 => in_row(row_of(3), n, a, b),
+        4 => in_row(row_of(4), n, a, b),
+        5 => in_row(row_of(5), n, a, b),
+        _ => false,
+    }
 }
 
 // Whether the three words that begin at `at` are one.

@@ -140,18 +140,19 @@ fn is_free(t: &[u16], k: usize, taken: StateSet) -> bool
     requires { ⌜ ChartRules (now t) × (k < view (now t) .transitions) ⌝ }
     ensures { λ r. ⌜ r ≡ allBelow (λ s. not (getD (cells taken) s false && related (view (now (t .entry))) s k)) k ⌝ }
 {
+    let mut s = states::next(taken, 0, k);
+    if s == k {
+        return true;
+    }
     if !is_scoped(t, k) {
         return true;
     }
     let top = scope_of(t, k);
-    let mut s = 0;
     while s < k {
-        if states::has_in(taken, s) {
-            if is_related(t, s, top) {
-                return false;
-            }
+        if is_related(t, s, top) {
+            return false;
         }
-        s += 1;
+        s = states::next(taken, s + 1, k);
     }
     true
 }

@@ -1,8 +1,8 @@
 -- Laws of the loops of specs/Loops.antt. Assumes nothing.
-use mathlib.Core.Path.{_≡_, refl, sym, ap, ap₂, _∙_}
+use mathlib.Core.Path.{_≡_, refl, sym, ap, _∙_}
 use mathlib.Core.Logic.{_≢_}
-use mathlib.Core.Bool.{Bool, true, false, not, _&&_, _||_, cond}
-use mathlib.Core.List.{List, [], _∷_, _++_}
+use mathlib.Core.Bool.{Bool, true, false, cond}
+use mathlib.Core.List.{List, [], _∷_}
 use Prim.Native.Nat.{ℕ, zero, suc, _+_, _-_, _≤_, _<_}
 use native.Mathlib.Nat.{not-suc-le-zero, le-refl}
 use native.Mathlib.Numerals.{add-one}
@@ -10,8 +10,8 @@ use native.Mathlib.Decide.{decLt}
 use native.Mathlib.Omega.{arith}
 use lib.ListN.{length, getD, length-append, List·getD-append, List·getD-eq-default}
 use lib.Seq.{getD-append-seam}
-use Rattle.words.specs.Loops.{tab, many, all, any, allBelow, anyBelow, rank, greatest, firstBad}
-use Rattle.words.proofs.Tests.{by-bool, last-or, and-l, and-r, and-i, or-l, or-r, clash}
+use Rattle.words.specs.Loops.{tab, allBelow, rank, greatest, firstBad}
+use Rattle.words.proofs.Tests.{by-bool, last-or, and-l, and-r, and-i, clash}
 
 -- ---- cells
 module _ {A : Type 0} (g : ℕ → List A → A) where

@@ -1,5 +1,5 @@
 -- Loops over numbers, said as recursions on ℕ. Every loop of the product is one of these.
-use mathlib.Core.Bool.{Bool, true, false, not, _&&_, _||_, cond}
+use mathlib.Core.Bool.{Bool, true, false, _&&_, _||_, cond}
 use mathlib.Core.List.{List, [], _∷_, _++_}
 use lib.Dec.{leb}
 use Prim.Native.Nat.{ℕ, zero, suc, _+_}

@@ -1,4 +1,4 @@
--- `active::child_of` meets its contract: the word at the place that `ranks` has for o. Assumes nothing.
+-- `active::child_of` meets its contract: the word at o's place. Assumes nothing.
 use borrow.Author.Needs.{needs}
 use Rattle.meaning.specs.Active.{child}
 use Rattle.active.proofs.child_of.Statement.{statement}
@@ -6,9 +6,7 @@ use Rattle.active.proofs.child_of.Tie as tie
 
 returns : tie.Need-returns
 unfolding child
-returns c =
-    let start = c .before .before .before .before .before in
-    (cc (start .pre .0 (start .args .o) (start .pre .1)), search needs)
+returns c = (cc, search needs)
 
 pub child-of-spec : {M : Type 1} → statement M
-child-of-spec = tie.close (tie.spec (λ c κs. search needs) (λ c κs. search needs) returns)
+child-of-spec = tie.close (tie.spec (λ c κs. search needs) returns)

@@ -12,12 +12,12 @@ use Rattle.active.proofs.with_child.Tie as tie
 
 add-requires : tie.Need-add-requires
 add-requires c κs =
-    let start = c .before .before .before in
-    omega (arith, start .pre .0 .counts .states .1, start .pre .2)
+    let start = c .before .before in
+    omega (arith, start .pre .0 .counts .states .1, start .pre .1)
 
 add-requires-2 : tie.Need-add-requires-2
 add-requires-2 c κs =
-    let start = c .before .before .before .before .before .before .before in
+    let start = c .before .before .before .before .before .before in
     let is = sym (c .before .is-child .ensures) ∙ c .if1 .taken in
     let told = child-told (view (now (start .args .t))) (start .args .o) (c .before .before .child-of .result) .told is in
     omega (arith, start .pre .0 .counts .states .1, told .0)
@@ -25,7 +25,7 @@ add-requires-2 c κs =
 returns : tie.Need-returns
 unfolding withChild
 returns c =
-    let s = c .before .before .before .before .before .before .before .before .args in
+    let s = c .before .before .before .before .before .before .before .args in
     let v = view (now (s .t)) in
     let w = c .before .before .before .child-of in
     let is = ap (childOf? v (s .o)) (sym (w .ensures .0)) ∙ sym (c .before .before .is-child .ensures) ∙ c .before .if1 .taken in
@@ -34,7 +34,7 @@ returns c =
 returns-2 : tie.Need-returns-2
 unfolding withChild
 returns-2 c =
-    let s = c .before .before .before .before .before .before .before .args in
+    let s = c .before .before .before .before .before .before .args in
     let v = view (now (s .t)) in
     let w = c .before .before .child-of in
     let is = ap (childOf? v (s .o)) (sym (w .ensures .0)) ∙ sym (c .before .is-child .ensures) ∙ c .if1 .left in

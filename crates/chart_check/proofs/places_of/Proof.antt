@@ -1,5 +1,4 @@
 -- `chart_check::places_of` meets its contract: what it returns is what its callees say. Assumes nothing.
-use Prim.Native.Nat.{ℕ, suc, _<_, _≤_}
 use mathlib.Core.Path.{_≡_}
 use Rattle.words.proofs.Tests.{past, only}
 use borrow.Author.Needs.{needs}

@@ -1,6 +1,6 @@
 -- `chart_rules::good_body` meets its contract: what it returns is what its callees say. Assumes nothing.
 use Rattle.chart_rules.specs.Tests.{goodBody?}
-use mathlib.Core.Path.{_≡_, sym, _∙_}
+use mathlib.Core.Path.{sym, _∙_}
 use borrow.Author.Needs.{needs}
 use Rattle.chart_rules.proofs.good_body.Statement.{statement}
 use Rattle.chart_rules.proofs.good_body.Tie as tie

@@ -33,7 +33,7 @@ loop-again c =
     let l = c .before .before .before .before .before .loop in
     let room = length to - s .at in
     let long = zeros-length room in
-    let put = c .before .before .put .ensures in
+    let put = c .before .before .put-in .ensures in
     let next : l .i - s .at + 1 ≡ l .i + 1 - s .at = omega arith in (
       omega arith,
       omega arith,

@@ -35,11 +35,10 @@ laid-start c state laid cleared ors is long l z =
 returns : tie.Need-returns
 unfolding startedOn stateLength
 returns c =
-    let ranks = c .before .before .before in
-    let s = ranks .before .before .before .before .args in
+    let s = c .before .before .before .before .before .before .args in
     let v = view (now (s .t)) in
     let other : length (now (s .state)) ≢ orStates v + v .variables =
-    λ e. c .if1 .taken (omega (arith, ranks .or-ranks .ensures .0, c .before .head .ensures .0)) in
+    λ e. c .if1 .taken (omega (arith, c .before .before .count .ensures .0, c .before .head .ensures .0)) in
     rw (eqb-no other) refl
 
 returns-2 : tie.Need-returns-2
@@ -47,10 +46,9 @@ unfolding startedOn stateLength
 returns-2 c =
     let laid = c .before .before .before .before .before .before in
     let if1 = laid .before .before in
-    let ranks = if1 .before .before .before in
-    let s = ranks .before .before .before .before .args in
+    let s = if1 .before .before .before .before .before .before .args in
     let v = view (now (s .t)) in
-    let is = ranks .or-ranks .ensures .0 in
+    let is = if1 .before .before .count .ensures .0 in
     let n = if1 .before .head .ensures .0 in
     let long : length (now (s .state)) ≡ orStates v + v .variables = omega (arith, is, n) in
     rw (eqb-yes long)
@@ -61,5 +59,5 @@ pub start-accepted-spec : {M : Type 1} → statement M
 start-accepted-spec =
     tie.close
     (tie.spec
-    (λ c. search needs) (λ c κs. search needs) (λ c κs. search needs) (λ c. search needs) returns (λ c κs. search needs)
+    (λ c κs. search needs) (λ c κs. search needs) (λ c κs. search needs) (λ c. search needs) returns (λ c κs. search needs)
     (λ c κs. search needs) (λ c. search needs) returns-2)

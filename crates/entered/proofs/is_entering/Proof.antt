@@ -1,6 +1,6 @@
 -- `entered::is_entering` meets its contract: each branch is one of the test's; the parent of an or-state that is not the root
 -- has a smaller number, so it has a cell. Assumes nothing.
-use mathlib.Core.Path.{refl, sym, ap, _∙_}
+use mathlib.Core.Path.{refl, ap, _∙_}
 use mathlib.Core.Bool.{false}
 use native.Mathlib.Omega.{arith}
 use denote.Ref.{now}
@@ -14,32 +14,26 @@ use Rattle.entered.proofs.is_entering.Statement.{statement}
 use Rattle.entered.proofs.is_entering.Tie as tie
 
 returns : tie.Need-returns
-returns c = rw (sym (c .before .is-and .ensures) ∙ c .if1 .taken) refl
+returns c = rw (eqb-yes (c .if1 .taken)) refl
 
 returns-2 : tie.Need-returns-2
-returns-2 c = rw (sym (c .before .before .is-and .ensures) ∙ c .before .if1 .left, eqb-yes (c .if2 .taken)) refl
-
-returns-3 : tie.Need-returns-3
-returns-3 c =
-    let is-or = sym (c .before .before .before .is-and .ensures) ∙ c .before .before .if1 .left in
-    rw (is-or, eqb-no (c .before .if2 .left), eqb-yes (c .if3 .taken)) refl
+returns-2 c = rw (eqb-no (c .before .if1 .left), eqb-yes (c .if2 .taken)) refl
 
 has-in-requires : tie.Need-has-in-requires
 has-in-requires c κs =
-    let start = c .before .before .before .before .before .before in
+    let start = c .before .before .before .before in
     let o = start .args .o in
     let rules = start .pre .0 in
-    let smaller = parent-smaller (view (now (start .args .t))) o (rules .places o (start .pre .1)) (c .before .if3 .left) in
+    let smaller = parent-smaller (view (now (start .args .t))) o (rules .places o (start .pre .1)) (c .before .if2 .left) in
     omega (arith, c .state-word .ensures .0, smaller, start .pre .1, rules .counts .states .1)
 
-returns-4 : tie.Need-returns-4
-returns-4 c =
-    let s = c .before .before .before .before .before .before .before .args in
-    let is-or = sym (c .before .before .before .before .before .is-and .ensures) ∙ c .before .before .before .before .if1 .left in
-    rw (is-or, eqb-no (c .before .before .before .if2 .left), eqb-no (c .before .before .if3 .left))
+returns-3 : tie.Need-returns-3
+returns-3 c =
+    let s = c .before .before .before .before .before .args in
+    rw (eqb-no (c .before .before .before .if1 .left), eqb-no (c .before .before .if2 .left))
     (c .has-in .ensures ∙ ap (λ p. getD (cells (s .entered)) p false) (c .before .state-word .ensures .0))
 
 pub is-entering-spec : {M : Type 1} → statement M
 is-entering-spec =
     tie.close
-    (tie.spec (λ c κs. search chart-needs) returns returns-2 returns-3 (λ c κs. search chart-needs) has-in-requires returns-4)
+    (tie.spec returns returns-2 (λ c κs. search chart-needs) has-in-requires returns-3)

@@ -1,5 +1,5 @@
 -- `flat::literal_of` meets its contract: what it returns is what its callees say. Assumes nothing.
-use Prim.Native.Nat.{ℕ, suc, _-_}
+use Prim.Native.Nat.{suc, _-_}
 use mathlib.Core.Path.{_≡_}
 use native.Mathlib.Omega.{arith}
 use Rattle.flat.specs.Literals.{flatLiteralOf}

@@ -17,7 +17,7 @@ use Rattle.lent.proofs.is_state.Tie as tie
 returns : tie.Need-returns
 unfolding stateOf? stateLength
 returns c =
-    let start = c .before .before .before .before .before in
+    let start = c .before .before .before .before in
     let s = start .args in
     let v = view (now (s .t)) in
     let differs = eqb-no {m = length (now (s .state))} {n = orStates v + v .variables} (λ e. c .if1 .taken (omega arith)) in
@@ -25,13 +25,13 @@ returns c =
 
 slice-aggregate-good-words : tie.Need-slice-aggregate-good-words
 slice-aggregate-good-words c =
-    let s = c .before .before .before .before .before .before .args in
-    sym (length-take-le (s .ors) (now (s .state)) (omega arith))
+    let s = c .before .before .before .before .before .args in
+    sym (length-take-le (s .words) (now (s .state)) (omega arith))
 
 returns-2 : tie.Need-returns-2
 unfolding stateOf? stateLength
 returns-2 c =
-    let start = c .before .before .before .before .before .before .before in
+    let start = c .before .before .before .before .before .before in
     let s = start .args in
     let v = view (now (s .t)) in
     let state = now (s .state) in

@@ -9,23 +9,21 @@ use Rattle.lent.proofs.rest_word.Statement.{statement}
 use Rattle.lent.proofs.rest_word.Tie as tie
 
 has-in-requires : tie.Need-has-in-requires
-has-in-requires c κs = let start = c .before .before .before in omega (arith, start .pre .0 .counts .states .1, start .pre .2)
+has-in-requires c κs = let start = c .before .before in omega (arith, start .pre .0 .counts .states .1, start .pre .1)
 
 returns : tie.Need-returns
 unfolding restWord child
 returns c =
-    let start = c .before .before .before .before .before .before .before in
-    let is-active = sym (c .before .before .before .has-in .ensures) ∙ c .before .before .if1 .taken in
-    rw is-active (cc (start .pre .1 (start .args .o) (start .pre .2)))
+    let is-active = sym (c .before .before .has-in .ensures) ∙ c .before .if1 .taken in
+    rw is-active cc
 
 returns-2 : tie.Need-returns-2
 unfolding restWord child
 returns-2 c =
-    let start = c .before .before .before .before .before .before .before .before .before in
-    let asked = c .before .before .before .before in
+    let asked = c .before .before .before in
     let sleeps = sym (asked .before .has-in .ensures) ∙ asked .if1 .left in
-    let keeps = sym (c .before .before .before .keeps-word .ensures) ∙ c .before .before .if2 .taken in
-    rw (sleeps, keeps) (cc (start .pre .1 (start .args .o) (start .pre .2)))
+    let keeps = sym (c .before .before .keeps-word .ensures) ∙ c .before .if2 .taken in
+    rw (sleeps, keeps) cc
 
 returns-3 : tie.Need-returns-3
 unfolding restWord
@@ -39,5 +37,5 @@ pub rest-word-spec : {M : Type 1} → statement M
 rest-word-spec =
     tie.close
     (tie.spec
-    has-in-requires (λ c κs. search needs) (λ c κs. search needs) returns (λ c κs. search chart-needs)
-    (λ c κs. search needs) (λ c κs. search needs) returns-2 (λ c κs. search chart-needs) (λ c. search needs) returns-3)
+    has-in-requires (λ c κs. search needs) returns (λ c κs. search chart-needs) (λ c κs. search needs) returns-2
+    (λ c κs. search chart-needs) (λ c. search needs) returns-3)

@@ -13,14 +13,14 @@ use Rattle.macrostep.proofs.go.Statement.{statement}
 use Rattle.macrostep.proofs.go.Tie as tie
 
 abbrev Inv-loop : tie.InvT-loop
-Inv-loop form t own₀ room next₀ vars₀ outs₀ queue₀ events m₀ e₀ left₀ own next vars outs queue m e left =
+Inv-loop form ors t own₀ room next₀ vars₀ outs₀ queue₀ events m₀ e₀ left₀ own next vars outs queue m e left =
     (length own ≡ length own₀) × (length next ≡ length next₀) × (length vars ≡ length vars₀)
-    × (length outs ≡ length outs₀) × (length queue ≡ length queue₀) × Ready t own form
+    × (length outs ≡ length outs₀) × (length queue ≡ length queue₀) × Ready t own ors form
     × (turns 64 (eventsOf t) room (machineOf form t) (e₀ .0) (going m₀ next₀ vars₀ outs₀ queue₀)
     ≡ turns left (eventsOf t) room (machineOf form t) (e .0) (going m next vars outs queue))
 
 abbrev μ-loop : tie.MeasureT-loop
-μ-loop form t own₀ room next₀ vars₀ outs₀ queue₀ events m₀ e₀ left₀ own next vars outs queue m e left = left
+μ-loop form ors t own₀ room next₀ vars₀ outs₀ queue₀ events m₀ e₀ left₀ own next vars outs queue m e left = left
 
 loop-holds : tie.Need-loop-holds Inv-loop μ-loop
 loop-holds c = (refl, refl, refl, refl, refl, c .before .before .before .before .before .before .before .pre .0, refl)

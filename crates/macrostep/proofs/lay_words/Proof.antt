@@ -1,11 +1,11 @@
 -- `macrostep::lay_words` meets its contract: what is laid is what the table's form hands back. Assumes nothing.
 use borrow.Author.Needs.{needs}
 use Prim.Native.Nat.{ℕ}
-use mathlib.Core.Path.{_≡_, sym, ap, _∙_, subst}
-use mathlib.Core.List.{List, _++_}
+use mathlib.Core.Path.{sym, ap, _∙_, subst}
+use mathlib.Core.List.{_++_}
 use native.Mathlib.Omega.{arith}
 use denote.Ref.{now}
-use lib.ListN.{length, drop}
+use lib.ListN.{drop}
 use Rattle.macrostep.specs.Forms.{wordsOf, atRest, Ready}
 use Rattle.macrostep.specs.declared.Form.{Form}
 use Rattle.macrostep.proofs.lay_words.Statement.{statement}
@@ -16,7 +16,7 @@ lay-rest-requires c κs =
     let s = c .before .before .before .before .before .before .before .args in
     let pre = c .before .before .before .before .before .before .before .pre in
     let is = c .before .enum-told .given .1 in
-    let chart = subst (Ready (now (s .t)) (now (s .own))) is (pre .0) in
+    let chart = subst (Ready (now (s .t)) (now (s .own)) (s .ors)) is (pre .0) in
     let long = pre .1 ∙ ap (λ (f : Form). wordsOf f (now (s .t))) is in
     (chart .0, chart .1, omega (arith, long, pre .2))
 

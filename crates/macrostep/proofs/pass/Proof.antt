@@ -1,7 +1,7 @@
 -- `macrostep::pass` meets its contract: before each time the outputs are as they were, and it is the first time, or what is meant
 -- ends well and all words are lent. Assumes nothing.
 use borrow.Author.Needs.{needs}
-use Prim.Native.Nat.{ℕ, _-_}
+use Prim.Native.Nat.{_-_}
 use mathlib.Core.Path.{_≡_, refl, sym, ap, _∙_}
 use native.Mathlib.Omega.{arith}
 use denote.Ref.{now}
@@ -15,13 +15,13 @@ use Rattle.macrostep.proofs.pass.Statement.{statement}
 use Rattle.macrostep.proofs.pass.Tie as tie
 
 abbrev Inv-loop : tie.InvT-loop
-Inv-loop form t own₀ state event outputs₀ next₀ vars₀ kept queue₀ all room first lent₀ own outputs next vars queue lent =
+Inv-loop form ors t own₀ state event outputs₀ next₀ vars₀ kept queue₀ all room first lent₀ own outputs next vars queue lent =
     (length own ≡ length own₀) × (length next ≡ length next₀) × (length vars ≡ length vars₀) × (length queue ≡ length queue₀)
-    × (outputs ≡ outputs₀) × Ready t own form
+    × (outputs ≡ outputs₀) × Ready t own ors form
     × Before outputs₀ first lent (macrostep (eventsOf t) (roomFor (length outputs₀)) (machineOf form t) (event .0) (take (length next₀) state) (drop (length next₀) state))
 
 abbrev μ-loop : tie.MeasureT-loop
-μ-loop form t own₀ state event outputs₀ next₀ vars₀ kept queue₀ all room first lent₀ own outputs next vars queue lent =
+μ-loop form ors t own₀ state event outputs₀ next₀ vars₀ kept queue₀ all room first lent₀ own outputs next vars queue lent =
     length outputs₀ - lent
 
 loop-holds : tie.Need-loop-holds Inv-loop μ-loop
@@ -60,7 +60,7 @@ returns c =
     let pre = c .before .before .before .before .before .before .before .before .before .before .before .before .before .before .before .before .before .before .before .before .before .before .before .before .before .before .before .before .before .before .before .before .before .pre in
     let s = c .before .before .before .before .before .before .before .before .before .before .before .before .before .before .before .before .before .before .before .before .before .before .before .before .before .before .before .before .before .before .before .before .before .args in
     let room = c .before .before .before .before .before .before .before .before .before .before .before .before .before .before .before .before .before .before .before .before .before .before .before .before .room-of in (
-      told-pass (s .form) (now (s .t)) (now (s .own)) (now (s .state)) (now (s .outputs)) (s .event .0) (length (now (s .next)))
+      told-pass (s .form) (now (s .t)) (now (s .own)) (now (s .state)) (now (s .outputs)) (s .ors) (s .event .0) (length (now (s .next)))
           (length (now (s .kept))) (pre .0) (pre .2) (room .result) (length (l .next)) (l .lent) (l .outputs) (l .queue)
           (room .ensures .0) (l .inv .1) (l .inv .4) (l .inv .3 ∙ pre .1 .queue-long) (l .inv .6) (ran .result) _ _ _ _
           (ran .ensures .0) (sym (c .before .is-told .ensures) ∙ c .if1 .taken),
@@ -87,7 +87,7 @@ returns-2 c =
     let pre = c .before .before .before .before .before .before .before .before .before .before .before .before .before .before .before .before .before .before .before .before .before .before .before .before .before .before .before .before .before .before .before .before .before .before .before .before .before .before .before .before .pre in
     let s = c .before .before .before .before .before .before .before .before .before .before .before .before .before .before .before .before .before .before .before .before .before .before .before .before .before .before .before .before .before .before .before .before .before .before .before .before .before .before .before .before .args in
     let room = c .before .before .before .before .before .before .before .before .before .before .before .before .before .before .before .before .before .before .before .before .before .before .before .before .before .before .before .before .before .before .before .room-of in (
-      stop-pass (s .form) (now (s .t)) (now (s .own)) (now (s .state)) (now (s .outputs)) (s .event .0) (length (now (s .next)))
+      stop-pass (s .form) (now (s .t)) (now (s .own)) (now (s .state)) (now (s .outputs)) (s .ors) (s .event .0) (length (now (s .next)))
           (length (now (s .kept))) (pre .0) (pre .2) (room .result) (length (l .next)) (l .lent) (l .outputs) (l .queue)
           (room .ensures .0) (l .inv .1) (l .inv .4) (l .inv .3 ∙ pre .1 .queue-long) (l .inv .6) (ran .result) _ _ _ _
           (ran .ensures .0) _ _ (c .before .before .before .before .before .before .before .before .before .before .before .before .outputs .given .0) (c .before .before .before .before .before .before .before .before .before .before .before .before .before .before .before .before .before .before .before .before .before .before .before .before .before .before .before .before .load .ensures) (c .before .before .before .before .load2 .ensures)
@@ -103,7 +103,7 @@ loop-less c =
     let s = c .before .before .before .before .before .before .before .before .before .before .before .before .before .before .before .before .before .before .before .before .before .before .before .before .before .before .before .before .before .before .before .before .before .before .before .before .before .before .before .before .args in
     let room = c .before .before .before .before .before .before .before .before .before .before .before .before .before .before .before .before .before .before .before .before .before .before .before .before .before .before .before .before .before .before .before .room-of in
     let again =
-    again-pass (s .form) (now (s .t)) (now (s .own)) (now (s .state)) (now (s .outputs)) (s .event .0) (length (now (s .next)))
+    again-pass (s .form) (now (s .t)) (now (s .own)) (now (s .state)) (now (s .outputs)) (s .ors) (s .event .0) (length (now (s .next)))
     (length (now (s .kept))) (pre .0) (pre .2) (room .result) (length (l .next)) (l .lent) (l .outputs) (l .queue)
     (room .ensures .0) (l .inv .1) (l .inv .4) (l .inv .3 ∙ pre .1 .queue-long) (l .inv .6) (ran .result) _ _ _ _
     (ran .ensures .0) _ _ (c .before .before .before .before .before .before .before .before .before .before .before .before .outputs .given .0) (c .before .before .before .before .before .before .before .before .before .before .before .before .before .before .before .before .before .before .before .before .before .before .before .before .before .before .before .before .load .ensures) (c .before .before .before .before .load2 .ensures)
@@ -118,7 +118,7 @@ loop-again c =
     let s = c .before .before .before .before .before .before .before .before .before .before .before .before .before .before .before .before .before .before .before .before .before .before .before .before .before .before .before .before .before .before .before .before .before .before .before .before .before .before .before .before .args in
     let room = c .before .before .before .before .before .before .before .before .before .before .before .before .before .before .before .before .before .before .before .before .before .before .before .before .before .before .before .before .before .before .before .room-of in
     let again =
-    again-pass (s .form) (now (s .t)) (now (s .own)) (now (s .state)) (now (s .outputs)) (s .event .0) (length (now (s .next)))
+    again-pass (s .form) (now (s .t)) (now (s .own)) (now (s .state)) (now (s .outputs)) (s .ors) (s .event .0) (length (now (s .next)))
     (length (now (s .kept))) (pre .0) (pre .2) (room .result) (length (l .next)) (l .lent) (l .outputs) (l .queue)
     (room .ensures .0) (l .inv .1) (l .inv .4) (l .inv .3 ∙ pre .1 .queue-long) (l .inv .6) (ran .result) _ _ _ _
     (ran .ensures .0) _ _ (c .before .before .before .before .before .before .before .before .before .before .before .before .outputs .given .0) (c .before .before .before .before .before .before .before .before .before .before .before .before .before .before .before .before .before .before .before .before .before .before .before .before .before .before .before .before .load .ensures) (c .before .before .before .before .load2 .ensures)

@@ -36,7 +36,7 @@ slice-aggregate-run-on-2 c =
 slice-aggregate-run-on-3 : tie.Need-slice-aggregate-run-on-3
 slice-aggregate-run-on-3 c =
     let first = c .before .before .before .before .before .before .first-of in
-    sym (length-take-le (first .result) (zeros 8) (first .ensures .1))
+    sym (length-take-le (first .result) (zeros 12) (first .ensures .1))
 
 run-on-requires : tie.Need-run-on-requires
 run-on-requires c κs =
@@ -45,7 +45,7 @@ run-on-requires c κs =
     let first = c .before .before .before .before .before .before .before .first-of in
     let next = length-take-le (s .words) (zeros 24) (pre .2) in
     let vars = length-take-le (length (now (s .state)) - s .words) (zeros 16) (omega (arith, pre .4)) in
-    let kept = length-take-le (first .result) (zeros 8) (first .ensures .1) in (
+    let kept = length-take-le (first .result) (zeros 12) (first .ensures .1) in (
       pre .0,
       record {
         next-long = next ∙ pre .1;

@@ -13,35 +13,35 @@ step-chart-requires : tie.Need-step-chart-requires
 step-chart-requires c κs =
     let s = c .before .before .before .before .before .before .before .before .before .before .before .before .before .args in
     let is = c .before .before .before .before .before .enum-told .given .1 in
-    let chart = subst (Ready (now (s .t)) (now (s .own))) is (c .before .before .before .before .before .before .before .before .before .before .before .before .before .pre .0) in
+    let chart = subst (Ready (now (s .t)) (now (s .own)) (s .ors)) is (c .before .before .before .before .before .before .before .before .before .before .before .before .before .pre .0) in
     let long = c .before .before .before .before .before .before .before .before .before .before .before .before .before .pre .1 ∙ ap (λ (f : Form). wordsOf f (now (s .t))) is in
     (chart .0, chart .1, omega (arith, long, chart .2))
 
 run-requires : tie.Need-run-requires
 run-requires c κs =
     let s = c .before .before .before .before .before .before .before .before .before .before .before .before .before .args in
-    subst (Ready (now (s .t)) (now (s .own))) (c .before .before .before .before .before .enum-told2 .given .1) (c .before .before .before .before .before .before .before .before .before .before .before .before .before .pre .0)
+    subst (Ready (now (s .t)) (now (s .own)) (s .ors)) (c .before .before .before .before .before .enum-told2 .given .1) (c .before .before .before .before .before .before .before .before .before .before .before .before .before .pre .0)
 
 returns : tie.Need-returns
 returns c =
     let s = c .before .before .before .before .before .before .before .before .before .before .before .before .before .before .before .before .before .before .before .before .before .before .before .before .args in
     let is = c .before .before .before .before .before .before .before .before .before .before .before .before .before .before .before .before .enum-told .given .1 in
-    let chart = subst (Ready (now (s .t)) (now (s .own))) is (c .before .before .before .before .before .before .before .before .before .before .before .before .before .before .before .before .before .before .before .before .before .before .before .before .pre .0) in
+    let chart = subst (Ready (now (s .t)) (now (s .own)) (s .ors)) is (c .before .before .before .before .before .before .before .before .before .before .before .before .before .before .before .before .before .before .before .before .before .before .before .before .pre .0) in
     let g = going (s .n) (now (s .next)) (now (s .vars)) (now (s .outs)) (now (s .queue)) in (
-      c .before .before .before .before .before .before .before .before .before .before .step-chart .ensures .0
+      c .before .before .before .before .before .before .before .before .before .before .step-chart .ensures
           ∙ ap (λ (f : Form). doSteps (s .room) (machineOf f (now (s .t)) (s .e .0) (now (s .next)) (now (s .vars))) g) (sym is),
-      subst (Ready (now (s .t)) _) (sym is) (chart .0, c .before .before .before .before .before .before .before .before .before .before .step-chart .ensures .1, chart .2 ∙ sym (c .before .before .before .before .before .before .before .before .before .own .given)),
+      subst (Ready (now (s .t)) _ (s .ors)) (sym is) (chart .0, chart .1, chart .2 ∙ sym (c .before .before .before .before .before .before .before .before .before .own .given)),
     )
 
 returns-2 : tie.Need-returns-2
 returns-2 c =
     let s = c .before .before .before .before .before .before .before .before .before .before .before .before .before .before .before .before .before .before .before .before .before .before .before .before .args in
     let is = c .before .before .before .before .before .before .before .before .before .before .before .before .before .before .before .before .enum-told2 .given .1 in
-    let flat = subst (Ready (now (s .t)) (now (s .own))) is (c .before .before .before .before .before .before .before .before .before .before .before .before .before .before .before .before .before .before .before .before .before .before .before .before .pre .0) in
+    let flat = subst (Ready (now (s .t)) (now (s .own)) (s .ors)) is (c .before .before .before .before .before .before .before .before .before .before .before .before .before .before .before .before .before .before .before .before .before .before .before .before .pre .0) in
     let g = going (s .n) (now (s .next)) (now (s .vars)) (now (s .outs)) (now (s .queue)) in (
       c .before .before .before .before .before .before .before .before .before .before .run .ensures
           ∙ ap (λ (f : Form). doSteps (s .room) (machineOf f (now (s .t)) (s .e .0) (now (s .next)) (now (s .vars))) g) (sym is),
-      subst (Ready (now (s .t)) _) (sym is) (flat .0, omega (arith, flat .1, c .before .before .before .before .before .before .before .before .before .own2 .given)),
+      subst (Ready (now (s .t)) _ (s .ors)) (sym is) (flat .0, omega (arith, flat .1, c .before .before .before .before .before .before .before .before .before .own2 .given)),
     )
 
 pub step-spec : {M : Type 1} → statement M

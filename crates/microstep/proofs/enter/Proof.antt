@@ -9,8 +9,8 @@ use Rattle.microstep.proofs.enter.Tie as tie
 
 enter-all-requires : tie.Need-enter-all-requires
 enter-all-requires c κs =
-    let s = c .before .before .before .before .before .before .before .before .before .before .before .before .args in
-    let pre = c .before .before .before .before .before .before .before .before .before .before .before .before .pre in
+    let s = c .before .before .before .before .before .before .before .before .before .before .before .args in
+    let pre = c .before .before .before .before .before .before .before .before .before .before .before .pre in
     let rules = pre .0 in (
       rules,
       pre .1,
@@ -19,7 +19,7 @@ enter-all-requires c κs =
 
 returns : tie.Need-returns
 returns c =
-    let s = c .before .before .before .before .before .before .before .before .before .before .before .before .before .before .before .before .before .before .before .before .before .args in
+    let s = c .before .before .before .before .before .before .before .before .before .before .before .before .before .before .before .before .before .before .before .before .args in
     let v = view (now (s .t)) in
     enters-same v (s .room) _ _ _ _ (c .before .before .before .before .before .before .before .before .before .before .before .before .before .entered-set .ensures) (c .before .before .before .before .before .before .before .before .enter-all .ensures)
 

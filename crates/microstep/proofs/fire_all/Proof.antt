@@ -1,8 +1,8 @@
--- `microstep::fire_all` meets its contract: the transitions below k are carried out. Assumes nothing.
+-- `microstep::fire_all` meets its contract: the transitions below k are carried out, and k is to be. Assumes nothing.
 use borrow.Author.Needs.{needs}
-use Prim.Native.Nat.{ℕ, _-_, _≤_}
+use Prim.Native.Nat.{ℕ, _-_, _<_, _≤_}
 use mathlib.Core.Path.{_≡_, refl, ap, _∙_}
-use mathlib.Core.Bool.{Bool, false, cond}
+use mathlib.Core.Bool.{Bool, true, false, cond}
 use mathlib.Core.List.{List, []}
 use native.Mathlib.Omega.{arith}
 use denote.Ref.{now}
@@ -14,7 +14,7 @@ use Rattle.chart.specs.View.{Chart, view}
 use Rattle.chart_rules.proofs.Readable.{chart-needs}
 use Rattle.states.specs.Cells.{cells}
 use Rattle.meaning.specs.Steps.{fires}
-use Rattle.effects.proofs.Going.{rises}
+use Rattle.moves.proofs.Members.{begun, risen}
 use Rattle.microstep.proofs.fire_all.Statement.{statement}
 use Rattle.microstep.proofs.fire_all.Tie as tie
 
@@ -23,34 +23,58 @@ abbrev one : Chart → List ℕ → List Bool → List Bool → ℕ → List Ste
 one c words acts taken k = cond (getD taken k false) (fires c words acts k) []
 
 abbrev Inv-loop : tie.InvT-loop
-Inv-loop t ranks current acts taken room next₀ vars₀ outs₀ queue₀ transitions m₀ k₀ next vars outs queue m k =
+Inv-loop t ors current acts taken room next₀ vars₀ outs₀ queue₀ transitions m₀ k₀ next vars outs queue m k =
     (k ≤ transitions) × (length next ≡ length next₀) × (length vars ≡ length vars₀) × (length outs ≡ length outs₀)
-    × (length queue ≡ length queue₀)
+    × (length queue ≡ length queue₀) × (k < transitions → getD (cells taken) k false ≡ true)
     × (going m next vars outs queue ≡ doSteps room (joinUp (one (view t) current (cells acts) (cells taken)) k) (going m₀ next₀ vars₀ outs₀ queue₀))
 
 abbrev μ-loop : tie.MeasureT-loop
-μ-loop t ranks current acts taken room next₀ vars₀ outs₀ queue₀ transitions m₀ k₀ next vars outs queue m k = transitions - k
+μ-loop t ors current acts taken room next₀ vars₀ outs₀ queue₀ transitions m₀ k₀ next vars outs queue m k = transitions - k
+
+next-requires : tie.Need-next-requires Inv-loop μ-loop
+next-requires c κs =
+    let pre = c .before .before .before .before .before .before .before .pre in
+    (omega arith, omega (arith, c .head .ensures .0, pre .0 .counts .transitions .1))
 
 loop-holds : tie.Need-loop-holds Inv-loop μ-loop
-unfolding doSteps
-loop-holds c = (omega arith, refl, refl, refl, refl, refl)
+loop-holds c =
+    let s = c .before .before .before .before .before .before .before .before .args in
+    let e = c .next .ensures in
+    let f = one (view (now (s .t))) (now (s .current)) (cells (s .acts)) (cells (s .taken)) in
+    (e .up-to, refl, refl, refl, refl, e .member, begun (s .room) f (cells (s .taken)) (λ j no. rw no refl) _ _ _ e)
 
-fire-taken-requires : tie.Need-fire-taken-requires Inv-loop μ-loop
-fire-taken-requires c κs =
+fire-requires : tie.Need-fire-requires Inv-loop μ-loop
+fire-requires c κs =
     let pre = c .before .before .before .before .before .before .before .before .before .before .before .before .before .before .pre in
-    (pre .0, pre .1, omega (arith, c .before .before .before .before .before .before .head .ensures .0, c .before .before .before .before .loop-test .taken))
+    (pre .0, pre .1, omega (arith, c .before .before .before .before .before .before .before .head .ensures .0, c .before .before .before .before .loop-test .taken))
+
+next-requires-2 : tie.Need-next-requires-2 Inv-loop μ-loop
+next-requires-2 c κs =
+    let pre = c .before .before .before .before .before .before .before .before .before .before .before .before .before .before .before .before .before .before .before .before .before .before .before .pre in
+    let n = c .before .before .before .before .before .before .before .before .before .before .before .before .before .before .before .before .head .ensures .0 in
+    (omega (arith, c .before .before .before .before .before .before .before .before .before .before .before .before .before .loop-test .taken), omega (arith, n, pre .0 .counts .transitions .1))
+
+loop-less : tie.Need-loop-less Inv-loop μ-loop
+loop-less c =
+    omega (arith, c .next3 .ensures .from, c .next3 .ensures .up-to, c .before .before .before .before .before .before .before .before .before .before .before .before .before .before .loop-test .taken)
 
 loop-again : tie.Need-loop-again Inv-loop μ-loop
 loop-again c =
-    let s = c .before .before .before .before .before .before .before .before .before .before .before .before .before .before .before .before .before .before .before .before .before .before .before .args in
-    let l = c .before .before .before .before .before .before .before .before .before .before .before .before .before .before .loop in
-    let f = one (view (now (s .t))) (now (s .current)) (cells (s .acts)) (cells (s .taken)) in (
-      omega arith,
+    let s = c .before .before .before .before .before .before .before .before .before .before .before .before .before .before .before .before .before .before .before .before .before .before .before .before .args in
+    let l = c .before .before .before .before .before .before .before .before .before .before .before .before .before .before .before .loop in
+    let on = c .before .before .before .before .before .before .before .before .before .before .before .before .before .before .loop-test .taken in
+    let e = c .next3 .ensures in
+    let does = fires (view (now (s .t))) (now (s .current)) (cells (s .acts)) in
+    let f = one (view (now (s .t))) (now (s .current)) (cells (s .acts)) (cells (s .taken)) in
+    let has = l .inv .5 on in (
+      e .up-to,
       search needs,
       search needs,
       search needs,
       search needs,
-      rises (s .room) f (l .k) _ _ (c .before .before .before .before .before .before .before .before .fire-taken .ensures ∙ ap (doSteps (s .room) (f (l .k))) (l .inv .5)),
+      e .member,
+      risen (s .room) f (cells (s .taken)) (λ j no. rw no refl) (l .k) _ _ _ _ e
+          (c .before .before .before .before .before .before .before .before .before .fire .ensures ∙ ap (doSteps (s .room) (does (l .k))) (l .inv .6) ∙ rw has refl),
     )
 
 returns : tie.Need-returns Inv-loop μ-loop
@@ -58,12 +82,12 @@ returns c =
     let s = c .before .before .before .before .before .before .before .before .before .before .args in
     let l = c .before .loop in
     let f = one (view (now (s .t))) (now (s .current)) (cells (s .acts)) (cells (s .taken)) in
-    let z : l .k ≡ view (now (s .t)) .transitions = omega (arith, c .before .before .head .ensures .0) in
-    l .inv .5 ∙ ap (λ (k : ℕ). doSteps (s .room) (joinUp f k) (going (s .n) (now (s .next)) (now (s .vars)) (now (s .outs)) (now (s .queue)))) z
+    let z : l .k ≡ view (now (s .t)) .transitions = omega (arith, c .before .before .before .head .ensures .0) in
+    l .inv .6 ∙ ap (λ (k : ℕ). doSteps (s .room) (joinUp f k) (going (s .n) (now (s .next)) (now (s .vars)) (now (s .outs)) (now (s .queue)))) z
 
 pub fire-all-spec : {M : Type 1} → statement M
 fire-all-spec =
     tie.close
     (tie.spec
-    Inv-loop μ-loop (λ c κs. search chart-needs) loop-holds fire-taken-requires (λ c. search needs) (λ c. search needs)
-    loop-again (λ c. search needs) (λ c. search needs) (λ c. search needs) (λ c. search needs) returns)
+    Inv-loop μ-loop (λ c κs. search chart-needs) next-requires loop-holds fire-requires (λ c. search needs)
+    next-requires-2 loop-less loop-again (λ c. search needs) (λ c. search needs) (λ c. search needs) (λ c. search needs) returns)

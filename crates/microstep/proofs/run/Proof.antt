@@ -9,7 +9,7 @@ use Rattle.microstep.proofs.run.Tie as tie
 
 returns : tie.Need-returns
 returns c =
-    let s = c .before .before .before .before .before .before .before .before .before .before .before .before .before .before .before .before .before .before .before .before .before .before .before .before .args in
+    let s = c .before .before .before .before .before .before .before .before .before .before .before .before .before .before .before .before .before .before .before .before .before .before .before .args in
     machine-runs (view (now (s .t))) _ (now (s .current)) (now (s .vars))
     (cells (c .before .before .before .before .before .before .before .before .before .before .before .before .before .before .before .before .active-set .result)) (cells (c .before .before .before .before .before .before .before .before .before .before .before .before .before .taken-set .result)) (c .before .before .before .before .before .before .before .before .before .before .before .before .before .before .before .before .active-set .ensures) (c .before .before .before .before .before .before .before .before .before .before .before .before .before .taken-set .ensures)
     (s .room) (s .e .0) _ _ (c .before .before .before .before .before .before .before .before .before .before .before .before .before .before .before .wide .ensures .0) (c .before .before .before .before .before .before .before .before .fire-all .ensures)

@@ -19,7 +19,7 @@ use Rattle.moves.proofs.leave_one.Tie as tie
 returns : tie.Need-returns
 unfolding doSteps leaveStep
 returns c =
-    λ next. rw (sym (c .before .is-left .ensures) ∙ not-true (c .before .is-left .result) (c .if1 .taken)) refl
+    λ next. rw (sym (c .before .is-beneath .ensures) ∙ not-true (c .before .is-beneath .result) (c .if1 .taken)) refl
 
 run-span-requires : tie.Need-run-span-requires
 run-span-requires c κs =
@@ -34,8 +34,8 @@ returns-2 c =
     let s = c .before .before .before .before .before .before .before .before .before .before .before .before .before .before .before .before .before .before .args in
     let v = view (now (s .t)) in
     let at : spanAt (now (s .t)) (c .before .before .before .before .before .before .before .before .before .before .before .state-at .result + 3) ≡ v .exits (s .j) = cc in
-    let left = c .before .before .before .before .before .before .before .before .before .before .before .before .before .is-left in
-    λ next. rw (sym (left .ensures) ∙ not-false (left .result) (c .before .before .before .before .before .before .before .before .before .before .before .before .if1 .left))
+    let below = c .before .before .before .before .before .before .before .before .before .before .before .before .before .is-beneath in
+    λ next. rw (sym (below .ensures) ∙ not-false (below .result) (c .before .before .before .before .before .before .before .before .before .before .before .before .if1 .left))
     (one-step (s .room) (leaveStep v (s .j)) (s .n) _ _ _ next next _ _ _ _ _ _
     (c .before .before .before .before .before .before .before .count-leave .ensures) (span-does (now (s .t)) _ _ at) refl (c .before .before .before .before .before .before .run-span .ensures))
 
@@ -43,5 +43,5 @@ pub leave-one-spec : {M : Type 1} → statement M
 leave-one-spec =
     tie.close
     (tie.spec
-    (λ c κs. search needs) returns (λ c κs. search chart-needs) (λ c. search needs) (λ c κs. search needs)
+    (λ c κs. search chart-needs) returns (λ c κs. search chart-needs) (λ c. search needs) (λ c κs. search needs)
     run-span-requires (λ c. search needs) (λ c. search needs) (λ c. search needs) returns-2)

@@ -14,7 +14,7 @@ returns : tie.Need-returns
 unfolding fires?
 returns c =
     let s = c .before .before .before .before .args in
-    let trigger : c .before .rule-word .result ≡ flatView (now (s .t)) .trigger (s .k) = cc in
+    let trigger : c .before .number-in .result ≡ flatView (now (s .t)) .trigger (s .k) = cc in
     rw (← trigger, eqb-no (c .if1 .taken))
 
 returns-2 : tie.Need-returns-2
@@ -22,7 +22,7 @@ unfolding fires?
 returns-2 c =
     let s = c .before .before .before .before .before .before .before .args in
     let f = flatView (now (s .t)) in
-    let trigger : c .before .before .before .before .rule-word .result ≡ f .trigger (s .k) = cc in
+    let trigger : c .before .before .before .before .number-in .result ≡ f .trigger (s .k) = cc in
     let first : c .before .has .result ≡ marked (now (s .marks)) (f .first-guard (s .k)) = cc in
     let matched = eqb-yes (c .before .before .before .if1 .left) in
     rw (← trigger, matched, ← first, not-true (c .before .has .result) (c .if2 .taken))
@@ -32,7 +32,7 @@ unfolding fires?
 returns-3 c =
     let s = c .before .before .before .before .before .before .before .before .before .args in
     let f = flatView (now (s .t)) in
-    let trigger : c .before .before .before .before .before .before .rule-word .result ≡ f .trigger (s .k) = cc in
+    let trigger : c .before .before .before .before .before .before .number-in .result ≡ f .trigger (s .k) = cc in
     let first : c .before .before .before .has .result ≡ marked (now (s .marks)) (f .first-guard (s .k)) = cc in
     let second : c .has2 .result ≡ marked (now (s .marks)) (f .second-guard (s .k)) = cc in
     let matched = eqb-yes (c .before .before .before .before .before .if1 .left) in
@@ -43,5 +43,5 @@ pub does-fire-spec : {M : Type 1} → statement M
 does-fire-spec =
     tie.close
     (tie.spec
-    (λ c κs. search needs) returns (λ c κs. search needs) (λ c κs. search needs) returns-2
-    (λ c κs. search needs) (λ c κs. search needs) returns-3)
+    (λ c. search needs) (λ c κs. search needs) returns (λ c. search needs) (λ c κs. search needs) (λ c κs. search needs)
+    returns-2 (λ c. search needs) (λ c κs. search needs) (λ c κs. search needs) returns-3)

@@ -1,6 +1,5 @@
 -- `states::none` meets its contract: no bit of 0 is set. Assumes nothing.
-use Prim.Native.Nat.{ℕ}
-use mathlib.Core.Path.{_≡_, refl}
+use mathlib.Core.Path.{refl}
 use Rattle.marks.specs.Bits.{bitAt}
 use Rattle.states.specs.Cells.{cells}
 use Rattle.states.proofs.none.Statement.{statement}

@@ -1,6 +1,5 @@
 -- `states::with` meets its contract: one bit is set or cleared, and past 48 there is none. Assumes nothing.
 use native.Mathlib.Omega.{arith}
-use borrow.Author.Tests.{not-true}
 use Rattle.states.specs.Cells.{cells}
 use Rattle.states.proofs.Bits.{same-out, cell-set, cell-clear}
 use borrow.Author.Needs.{needs}

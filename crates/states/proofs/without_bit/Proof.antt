@@ -1,4 +1,5 @@
 -- `states::without_bit` meets its contract: the shift loses nothing. Assumes nothing.
+use native.Mathlib.Omega.{arith}
 use Rattle.states.specs.Cells.{clearBit}
 use Rattle.states.proofs.Bits.{one-shl}
 use borrow.Author.Needs.{needs}
@@ -7,7 +8,7 @@ use Rattle.states.proofs.without_bit.Tie as tie
 
 returns : tie.Need-returns
 unfolding clearBit
-returns c = rw (one-shl (c .args .k) (c .pre))
+returns c = rw (one-shl (c .args .k) (omega (arith, c .pre)))
 
 pub without-bit-spec : {M : Type 1} → statement M
 without-bit-spec = tie.close (tie.spec

@@ -1,6 +1,5 @@
 -- `table::flat_refusal` meets its contract: what it returns is what its callees say. Assumes nothing.
 use Rattle.words.proofs.Tests.{past, only}
-use Prim.Native.Nat.{ℕ, suc, _≤_}
 use mathlib.Core.Path.{_≡_, refl}
 use native.Mathlib.Omega.{arith}
 use borrow.Author.Needs.{needs}

@@ -1,11 +1,10 @@
 -- `words::sat_add` meets its contract: what it returns is what its callees say. Assumes nothing.
 use borrow.Author.Needs.{needs}
 use mathlib.Core.Path.{_≡_, _∙_, ap}
-use mir.Facts.{toZ-ofZ, sfits-toZ, sfits-widen}
+use mir.Facts.{toZ-ofZ, sfits-toZ}
 use mir.Syntax.{w16, w32}
-use mir.Val.{Fits, SFits, toZ, ofZ}
-use Prim.Native.Nat.{ℕ}
-use lib.IntN.{ℤ, pos, _+ℤ_}
+use mir.Val.{toZ, ofZ}
+use lib.IntN.{_+ℤ_}
 use Rattle.words.specs.Signed.{clip}
 use Rattle.words.proofs.Signed.{read, sum, clip-fits, clip-back}
 use Rattle.words.proofs.sat_add.Statement.{statement}

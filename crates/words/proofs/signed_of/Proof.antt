@@ -2,7 +2,7 @@
 use borrow.Author.Needs.{needs}
 use mathlib.Core.Path.{_∙_}
 use mir.Facts.{toZ-ofZ, sfits-toZ, sfits-widen}
-use mir.Syntax.{w16, w32}
+use mir.Syntax.{w32}
 use mir.Val.{SFits, toZ}
 use lib.IntN.{pos, _-ℤ_}
 use Rattle.words.proofs.Signed.{low, high}

@@ -1,8 +1,8 @@
 -- `words::word_of` meets its contract: what it returns is what its callees say. Assumes nothing.
-use mathlib.Core.Path.{_≡_, _∙_, ap, sym}
+use mathlib.Core.Path.{_≡_, _∙_, ap}
 use mir.Facts.{toZ-ofZ}
 use mir.Syntax.{w16, w32}
-use mir.Val.{SFits, toZ, ofZ}
+use mir.Val.{toZ, ofZ}
 use lib.IntN.{pos, _+ℤ_, natAbs}
 use Rattle.words.proofs.Signed.{back, small, fits, nonneg}
 use Rattle.words.proofs.word_of.Statement.{statement}

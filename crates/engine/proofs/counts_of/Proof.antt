@@ -1,0 +1,10 @@
+-- `engine::counts_of` meets its contract: each count is in its place. Assumes nothing.
+use mathlib.Core.Path.{refl}
+use Rattle.engine.proofs.counts_of.Statement.{statement}
+use Rattle.engine.proofs.counts_of.Tie as tie
+
+returns : tie.Need-returns
+returns c = refl
+
+pub counts-of-spec : {M : Type 1} → statement M
+counts-of-spec = tie.close (tie.spec returns)
