@@ -9,13 +9,13 @@ use native.Mathlib.Omega.{arith}
 use lib.ListN.{getD, List·getD-eq-default}
 use lib.Dec.{ltb}
 use Rattle.words.specs.Loops.{tab, rank}
+use Rattle.words.specs.Next.{Next}
 use Rattle.words.proofs.Tests.{and-r, not-no, ltb-yes, ltb-no}
 use Rattle.words.proofs.Loops.{tab-length, tab-at, rank-next}
+use Rattle.words.proofs.Skip.{rank-skip, rank-cong}
 use Rattle.chart.specs.View.{Chart}
 use Rattle.states.specs.Cells.{noCells}
-use Rattle.states.specs.Next.{Next}
 use Rattle.states.proofs.Cells.{Filled}
-use Rattle.states.proofs.Skip.{rank-skip, rank-cong}
 use Rattle.meaning.specs.Active.{isOr, orRank}
 use Rattle.meaning.proofs.Tree.{Tree}
 use Rattle.active.specs.Ors.{Ors}
@@ -47,7 +47,7 @@ module _ (c : Chart) (ors : List Bool) (is : Ors c ors) where
   members-rank o h = rank-cong (λ j. getD ors j false) (isOr c) o (λ j l. below-is j (omega arith))
 
   -- between an or-state and the next there is none
-  pub no-or : (k n o : ℕ) → n ≡ c .states → Next ors k n o → (j : ℕ) → k ≤ j → j < o → isOr c j ≡ false
+  pub no-or : (k n o : ℕ) → n ≡ c .states → Next (λ j. getD ors j false) k n o → (j : ℕ) → k ≤ j → j < o → isOr c j ≡ false
   no-or k n o e next j l h = sym (below-is j (omega (arith, next .up-to))) ∙ next .skipped j l h
 
 -- the loop is at or-state o, or behind the last; r is the place of its word, and the set shows the active states that or-states
@@ -73,7 +73,7 @@ module _ {c : Chart} (w : Tree c) (words : List ℕ) where
 
   -- from or-state o to the next
   pub going-next : (ors : List Bool) → Ors c ors → (n o r i : ℕ) (old new : List Bool) → n ≡ c .states → o < n
-      → Going c words o r old → Shown c words (o + 1) new → Next ors (o + 1) n i → Going c words i (r + 1) new
+      → Going c words o r old → Shown c words (o + 1) new → Next (λ j. getD ors j false) (o + 1) n i → Going c words i (r + 1) new
   unfolding orRank
   going-next ors is n o r i old new e h g s next = record {
     up-to = omega (arith, next .up-to);

@@ -2,17 +2,9 @@
 // knows neither charts nor flat tables.
 ghost use mathlib.Core.Path.{_≡_};
 ghost use mathlib.Core.List.{_++_};
-ghost use Prim.Native.Nat.{_+_, _-_, _<_, _≤_};
-ghost use lib.ListN.{length, set, take, drop};
+ghost use Prim.Native.Nat.{_+_, _-_, _≤_};
+ghost use lib.ListN.{length, take, drop};
 ghost use Rattle.effects.specs.Lent.{roomFor, zeros};
-
-// Word i becomes v, where the slice has it.
-fn put_in(t: &mut [u16], i: usize, v: u16)
-    requires { ⌜ i < length (now t) ⌝ }
-    ensures { λ r. ⌜ now (t .exit) ≡ set (now (t .entry)) i v ⌝ }
-{
-    t[i] = v;
-}
 
 // As many words as `to` has, of `from` from `at` on.
 pub fn load(to: &mut [u16], from: &[u16], at: usize)
@@ -22,7 +14,7 @@ pub fn load(to: &mut [u16], from: &[u16], at: usize)
     let n = to.len();
     let mut i = 0;
     while i < n {
-        put_in(to, i, words::word_in(from, at + i));
+        words::put_in(to, i, words::word_in(from, at + i));
         i += 1;
     }
 }
@@ -34,7 +26,7 @@ pub fn store(to: &mut [u16], at: usize, from: &[u16])
 {
     let mut i = 0;
     while i < from.len() {
-        put_in(to, at + i, words::word_in(from, i));
+        words::put_in(to, at + i, words::word_in(from, i));
         i += 1;
     }
 }
@@ -55,7 +47,7 @@ pub fn clear(to: &mut [u16], at: usize)
 {
     let mut i = at;
     while i < to.len() {
-        put_in(to, i, 0);
+        words::put_in(to, i, 0);
         i += 1;
     }
 }

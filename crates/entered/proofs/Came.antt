@@ -12,6 +12,7 @@ use lib.ListN.{length, getD, set, List·getD-eq-default}
 use lib.Seq.{getD-set-same, getD-set-other}
 use lib.Dec.{eqb, ltb}
 use Rattle.words.specs.Loops.{many, any}
+use Rattle.words.specs.Next.{Next}
 use Rattle.words.proofs.Tests.{by-bool, clash, same-test, and-i, or-r, not-yes, not-no}
 use Rattle.words.proofs.Tests.{eqb-yes, eqb-no, eqb-eq, eqb-ne, eqb-self, ltb-yes, ltb-lt, ltb-no, ltb-ge}
 use Rattle.words.proofs.Lists.{any-some, some-any}
@@ -21,7 +22,6 @@ use Rattle.chart.specs.Tree.{Above, parent-of, above-parent, within}
 use Rattle.chart.proofs.Within.{within-self, within-le, within-up, within-end}
 use Rattle.chart.proofs.Tree.{within-parent, above-told}
 use Rattle.states.specs.Cells.{noCells}
-use Rattle.states.specs.Next.{Next}
 use Rattle.states.proofs.Cells.{filled-none}
 use Rattle.meaning.specs.Active.{isOr, child}
 use Rattle.meaning.specs.Scope.{beneath, targetsOf, scope}
@@ -341,7 +341,7 @@ module _ {c : Chart} (w : Tree c) where
         (λ q. rw q refl)
 
     -- nothing is entered in what is no or-state
-    pub came-on : (ors : List Bool) → Ors c ors → (m n o : ℕ) → Next ors m n o → (s : List Bool)
+    pub came-on : (ors : List Bool) → Ors c ors → (m n o : ℕ) → Next (λ j. getD ors j false) m n o → (s : List Bool)
         → Came c words k m s → Came c words k o s
     came-on ors told m n o next s f j =
         let p = c .parent j in

@@ -15,7 +15,7 @@ use Rattle.flat_meaning.specs.Theorems.{GuardsMean}
 
 -- two tests that agree on a span's things
 module _ {A : Type 0} (p q : A → Bool) (g : ℕ → A) where
-  all-many-cong : (first count : ℕ) → ((i : ℕ) → i < count → p (g (first + i)) ≡ q (g (first + i)))
+  pub all-many-cong : (first count : ℕ) → ((i : ℕ) → i < count → p (g (first + i)) ≡ q (g (first + i)))
       → all p (many g first count) ≡ all q (many g first count)
   all-many-cong first zero h = refl
   all-many-cong first (suc count) h =

@@ -10,8 +10,8 @@ use lib.Seq.{drop-cons, set-at, append-snoc}
 use Rattle.words.specs.Loops.{joinUp, rank, when}
 use Rattle.words.proofs.Tests.{by-bool}
 use Rattle.words.proofs.Ranks.{rank-lt, rank-length}
+use Rattle.words.proofs.Skip.{join-skip, rank-skip}
 use Rattle.chart.specs.View.{Chart}
-use Rattle.states.proofs.Skip.{join-skip, rank-skip}
 use Rattle.meaning.specs.Active.{actives, active}
 use Rattle.meaning.specs.Steps.{restWord}
 use Rattle.lent.specs.Laid.{laid}

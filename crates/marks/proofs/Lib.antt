@@ -1,3 +1,5 @@
--- Laws of what specs/ defines: `Bits` of the bits of a number, `Marks` of numbers that are marked.
+-- Laws of what specs/ defines: `Bits` of the bits of a number, `Zeros` of the zeros at either end of one, `Marks` of numbers that
+-- are marked.
 pub mod Bits
+pub mod Zeros
 pub mod Marks

@@ -1,33 +1,21 @@
--- Laws of marks: what is marked once a number is, and marks that are made number by number as the cells of a `tab` are.
--- Assumes nothing.
-use Prim.Native.Nat.{ℕ, _+_, _*_, _/_, _%_, _<_}
-use mathlib.Core.Path.{_≡_, refl, sym, ap, _∙_}
-use mathlib.Core.Bool.{Bool, true, false, _||_, cond}
+-- Laws of marks: what is marked once a number is, or is not any more, and how the numbers of a word are gone through. Assumes nothing.
+use Prim.Native.Nat.{ℕ, _+_, _-_, _*_, _/_, _%_, _^_, _<_, _≤_}
+use mathlib.Core.Path.{_≡_, refl, ap, _∙_}
+use mathlib.Core.Bool.{Bool, true, false, cond}
 use mathlib.Core.List.{List}
 use mathlib.Core.Logic.{_≢_}
-use native.Mathlib.Decide.{ℕ-discrete}
+use native.Mathlib.Nat.{le-add-right}
+use native.Mathlib.Decide.{ℕ-discrete, decLt}
 use native.Mathlib.Omega.{arith}
 use lib.Dec.{eqb}
-use lib.ListN.{length, getD, List·getD-eq-default}
+use lib.Count.{trailingZeros, trailing-of-zero}
+use lib.ListN.{length, getD, set}
 use lib.Seq.{getD-set-same, getD-set-other}
-use Rattle.words.specs.Loops.{tab}
-use Rattle.words.proofs.Tests.{eqb-yes, eqb-no, eqb-self}
-use Rattle.words.proofs.Loops.{tab-length, tab-next, tab-off}
-use Rattle.marks.specs.Bits.{bitAt, setBit, marked, withMark}
-use Rattle.marks.proofs.Bits.{bit-zero, bit-set}
-
--- nothing is marked where all words are 0
-pub marked-none : (marks : List ℕ) → ((i : ℕ) → getD marks i 0 ≡ 0) → (j : ℕ) → marked marks j ≡ false
-unfolding marked
-marked-none marks z j = rw (z (j / 16)) (bit-zero (j % 16))
-
-or-false : (b : Bool) → (b || false) ≡ b
-or-false true = refl
-or-false false = refl
-
-or-true : (b : Bool) → (b || true) ≡ true
-or-true true = refl
-or-true false = refl
+use Rattle.words.specs.Next.{Onward, Last}
+use Rattle.words.proofs.Tests.{eqb-yes, eqb-no}
+use Rattle.marks.specs.Bits.{bitAt, setBit, clearBit, marked, withMark, withoutMark}
+use Rattle.marks.proofs.Bits.{set-bit, clear-bit}
+use Rattle.marks.proofs.Zeros.{lowest, lowest-in}
 
 module _ (k : ℕ) (marks : List ℕ) where
   -- in one word, numbers are told apart by their bits
@@ -38,43 +26,84 @@ module _ (k : ℕ) (marks : List ℕ) where
         | no f ↦ rw (eqb-no f) (eqb-no {m = j % 16} {n = k % 16} (λ q. f (omega arith)))
       ]
 
-  pub marked-with : k < 16 * length marks → (j : ℕ) → marked (withMark k marks) j ≡ (marked marks j || eqb j k)
-  unfolding marked withMark
-  marked-with l j =
-      let w = getD marks (k / 16) 0 in
-      let v = setBit w (k % 16) in
+  -- where one bit of a word becomes b, one number is marked as b says
+  turned : (v : ℕ) (b : Bool) → k < 16 * length marks
+      → ((i : ℕ) → bitAt v i ≡ cond (eqb i (k % 16)) b (bitAt (getD marks (k / 16) 0) i))
+      → (j : ℕ) → marked (set marks (k / 16) v) j ≡ cond (eqb j k) b (marked marks j)
+  unfolding marked
+  turned v b l bits j =
       elim (ℕ-discrete (j / 16) (k / 16)) [
-        | yes e ↦
-            rw (e, getD-set-same marks (k / 16) v 0 (omega arith)) (bit-set w (k % 16) (j % 16) ∙ rw (same-bit j e) refl)
+        | yes e ↦ rw (e, getD-set-same marks (k / 16) v 0 (omega arith)) (bits (j % 16) ∙ rw (same-bit j e) refl)
         | no f ↦
             let g : j ≢ k = λ q. f (ap (λ (n : ℕ). n / 16) q) in
-            rw (getD-set-other marks (k / 16) (j / 16) v 0 f, eqb-no g) (sym (or-false (bitAt (getD marks (j / 16) 0) (j % 16))))
+            rw (getD-set-other marks (k / 16) (j / 16) v 0 f, eqb-no g) refl
       ]
 
--- what is marked is what g makes true, as far as k
-abbrev pub Filled : (ℕ → List Bool → Bool) → ℕ → List ℕ → Type 0
-Filled g k marks = (j : ℕ) → marked marks j ≡ getD (tab g k) j false
+  module _ (l : k < 16 * length marks) (j : ℕ) where
+    pub marked-with : marked (withMark k marks) j ≡ cond (eqb j k) true (marked marks j)
+    unfolding withMark
+    marked-with = turned (setBit (getD marks (k / 16) 0) (k % 16)) true l (set-bit (getD marks (k / 16) 0) (k % 16)) j
 
-module _ (g : ℕ → List Bool → Bool) where
-  pub filled-none : (marks : List ℕ) → ((i : ℕ) → getD marks i 0 ≡ 0) → Filled g 0 marks
-  filled-none marks z j = marked-none marks z j
+    pub marked-without : marked (withoutMark k marks) j ≡ cond (eqb j k) false (marked marks j)
+    unfolding withoutMark
+    marked-without = turned (clearBit (getD marks (k / 16) 0) (k % 16)) false l (clear-bit (getD marks (k / 16) 0) (k % 16)) j
 
-  module _ (k : ℕ) (marks : List ℕ) (f : Filled g k marks) where
-    -- number k is not marked yet
-    not-yet : marked marks k ≡ false
-    not-yet = f k ∙ List·getD-eq-default (tab g k) false (omega (arith, tab-length g k))
+-- ---- numbers one after another
+-- from a on, below b, none passes
+abbrev pub None : (ℕ → Bool) → ℕ → ℕ → Type 0
+None p a b = (j : ℕ) → a ≤ j → j < b → p j ≡ false
 
-    marked-at : (b : Bool) → k < 16 * length marks → marked (cond b (withMark k marks) marks) k ≡ b
-    marked-at true l = marked-with k marks l k ∙ rw (eqb-self k) (or-true (marked marks k))
-    marked-at false l = not-yet
+-- where none passes, the search goes on
+module _ (p : ℕ → Bool) where
+  pub none-on : (a b c : ℕ) → None p a b → None p b c → None p a c
+  none-on a b c f g j l h = elim (decLt j b) [ yes q ↦ f j l q | no q ↦ g j (omega arith) h ]
 
-    marked-off : (b : Bool) (j : ℕ) → k < 16 * length marks → j ≢ k → marked (cond b (withMark k marks) marks) j ≡ marked marks j
-    marked-off true j l n = marked-with k marks l j ∙ rw (eqb-no n) (or-false (marked marks j))
-    marked-off false j l n = refl
+  pub onward-on : (k j n r : ℕ) → k ≤ j → None p k j → Onward p j n r → Onward p k n r
+  onward-on k j n r l f o = record {
+    from = omega (arith, o .from);
+    skipped = none-on k j r f (o .skipped);
+    member = o .member;
+  }
 
-    pub filled-next : (b : Bool) → k < 16 * length marks → b ≡ g k (tab g k) → Filled g (k + 1) (cond b (withMark k marks) marks)
-    filled-next b l e j =
-        elim (ℕ-discrete j k) [
-          | yes q ↦ rw q (marked-at b l ∙ e ∙ sym (tab-next g false k))
-          | no q ↦ marked-off b j l q ∙ f j ∙ tab-off g false k j q
-        ]
+  pub last-on : (n k r : ℕ) → n ≤ k → None p n k → Last p n r → Last p k r
+  last-on n k r l f o = record {
+    up-to = omega (arith, o .up-to);
+    skipped = none-on r n k (o .skipped) f;
+    member = o .member;
+  }
+
+-- the numbers of one word w are its bits
+module _ (marks : List ℕ) (w : ℕ) where
+  in-word : (i j : ℕ) → w ≡ getD marks i 0 → j / 16 ≡ i → marked marks j ≡ bitAt w (j % 16)
+  unfolding marked
+  in-word i j is e = rw (e, is) refl
+
+  -- from k on upward: nothing is left of the word, or the lowest bit that is left is the next number
+  module _ (k : ℕ) (is : w ≡ getD marks (k / 16) 0) where
+    pub none-up : w / 2 ^ (k % 16) ≡ 0 → None (marked marks) k (16 * (k / 16) + 16)
+    none-up e j l h =
+        in-word (k / 16) j is (omega arith)
+        ∙ lowest 16 w (k % 16) .skipped (j % 16) (omega arith) (omega (arith, trailing-of-zero 16, ap (trailingZeros 16) e))
+
+    pub first-up : w < 2 ^ 16 → 0 < w / 2 ^ (k % 16) → (n : ℕ) → Onward (marked marks) k n (k + trailingZeros 16 (w / 2 ^ (k % 16)))
+    first-up h pos n =
+        let o = lowest 16 w (k % 16) in
+        let r = k + trailingZeros 16 (w / 2 ^ (k % 16)) in
+        let inside = lowest-in 16 w (k % 16) (omega arith) h pos in
+        let same : r % 16 ≡ k % 16 + trailingZeros 16 (w / 2 ^ (k % 16)) = omega arith in record {
+          from = le-add-right k _;
+          skipped = λ j l g. in-word (k / 16) j is (omega arith) ∙ o .skipped (j % 16) (omega arith) (omega arith);
+          member = λ g. in-word (k / 16) r is (omega arith) ∙ rw same (o .member (omega arith));
+        }
+
+  -- below n downward: nothing is above the bit that was found, and that is the last number where there is one
+  module _ (n b : ℕ) (pos : 0 < n) (is : w ≡ getD marks ((n - 1) / 16) 0) (l : Last (bitAt w) (n - 16 * ((n - 1) / 16)) b) where
+    pub none-down : None (marked marks) (16 * ((n - 1) / 16) + b) n
+    none-down j g h = in-word ((n - 1) / 16) j is (omega arith) ∙ l .skipped (j % 16) (omega arith) (omega arith)
+
+    pub first-down : 0 < b → Last (marked marks) n (16 * ((n - 1) / 16) + b)
+    first-down some = record {
+      up-to = omega (arith, l .up-to);
+      skipped = none-down;
+      member = λ j e. in-word ((n - 1) / 16) j is (omega (arith, l .up-to)) ∙ l .member (j % 16) (omega (arith, l .up-to));
+    }

@@ -1,6 +1,5 @@
--- Laws of the steps of a transition: `Steps`, of the items that they have; `Items`, that these lie inside the table; `Members`, of
--- loops that go from member to member of a set; `Ands`, of the and-states that were active.
+-- Laws of the steps of a transition: `Steps`, of the items that they have; `Items`, that these lie inside the table; `Ands`, of the
+-- and-states that were active.
 pub mod Steps
 pub mod Items
-pub mod Members
 pub mod Ands

@@ -1,64 +1,22 @@
--- Laws of the bits of a set: a bit that is cleared, and one that is set or cleared as a cell of the set. Assumes nothing.
-use Prim.Native.Nat.{ℕ, zero, suc, _+_, _*_, _/_, _%_, _^_, _<_, _≤_}
-use native.Mathlib.Nat.{one-mul, add-zero, zero-add}
+-- Laws of the bits of a set: a bit that is set or cleared is a cell of the set that is. Assumes nothing.
+use Prim.Native.Nat.{ℕ, zero, suc, _+_, _<_, _≤_}
+use native.Mathlib.Nat.{add-zero, zero-add}
 use native.Mathlib.Decide.{decLt}
 use native.Mathlib.Omega.{arith}
 use mathlib.Core.Path.{_≡_, refl, sym, _∙_, ap, ap₂}
 use mathlib.Core.Bool.{Bool, false, true, not, _&&_, _||_, cond, Bool·beq}
 use mathlib.Core.List.{List, _∷_}
-use lib.Dec.{eqb, lit<}
+use lib.Dec.{eqb}
 use lib.ListN.{length, getD, set, List·getD-eq-default}
 use lib.Seq.{set-out}
-use lib.Bits.{bitOr, bitXor, xor-shr, xor-mod}
-use lib.Pow.{shl-exact}
+use lib.Bits.{bitOr, bitXor}
 use Rattle.words.specs.Loops.{many}
 use Rattle.words.proofs.Tests.{eqb-yes, eqb-no}
 use Rattle.words.proofs.Many.{many-length, many-at}
-use Rattle.marks.specs.Bits.{bitAt, setBit}
-use Rattle.marks.proofs.Bits.{bit-or, bit-pow}
-use Rattle.states.specs.Cells.{clearBit}
+use Rattle.marks.specs.Bits.{bitAt, setBit, clearBit}
+use Rattle.marks.proofs.Bits.{bit-or, bit-xor, set-bit, clear-bit}
 
--- the code's `1 << k`
-pub one-shl : (k : ℕ) → k < 64 → (1 * 2 ^ k) % 2 ^ 64 ≡ 2 ^ k
-one-shl k h = shl-exact 1 k 64 (lit< tt) (omega arith) ∙ one-mul _
-
--- ---- a bit that is set, and one that is cleared
-xor-digit : (x y : ℕ) → x < 2 → y < 2 → eqb (bitXor x y) 1 ≡ not (Bool·beq (eqb x 1) (eqb y 1))
-xor-digit zero zero h k = refl
-xor-digit zero (suc zero) h k = refl
-xor-digit (suc zero) zero h k = refl
-xor-digit (suc zero) (suc zero) h k = refl
-xor-digit zero (suc (suc y)) h k = absurd (omega arith)
-xor-digit (suc zero) (suc (suc y)) h k = absurd (omega arith)
-xor-digit (suc (suc x)) y h k = absurd (omega arith)
-
-bit-xor : (a b j : ℕ) → bitAt (bitXor a b) j ≡ not (Bool·beq (bitAt a j) (bitAt b j))
-unfolding bitAt
-bit-xor a b j =
-    ap (λ (x : ℕ). eqb (x % 2) 1) (xor-shr a b j)
-    ∙ ap (λ (x : ℕ). eqb x 1) (xor-mod (a / 2 ^ j) (b / 2 ^ j) 1)
-    ∙ xor-digit (a / 2 ^ j % 2) (b / 2 ^ j % 2) (omega arith) (omega arith)
-
-set-digit : (a b : Bool) → (a || b) ≡ cond b true a
-set-digit true true = refl
-set-digit true false = refl
-set-digit false true = refl
-set-digit false false = refl
-
-clear-digit : (a b : Bool) → not (Bool·beq (a || b) b) ≡ cond b false a
-clear-digit true true = refl
-clear-digit true false = refl
-clear-digit false true = refl
-clear-digit false false = refl
-
-pub set-bit : (m k j : ℕ) → bitAt (setBit m k) j ≡ cond (eqb j k) true (bitAt m j)
-unfolding setBit
-set-bit m k j = bit-or m (2 ^ k) j ∙ rw (bit-pow k j) (set-digit (bitAt m j) (eqb j k))
-
-pub clear-bit : (m k j : ℕ) → bitAt (clearBit m k) j ≡ cond (eqb j k) false (bitAt m j)
-unfolding clearBit
-clear-bit m k j = bit-xor (bitOr m (2 ^ k)) (2 ^ k) j ∙ rw (bit-or m (2 ^ k) j, bit-pow k j) (clear-digit (bitAt m j) (eqb j k))
-
+-- ---- the bits of one number without those of another
 except-digit : (a b : Bool) → not (Bool·beq (a || b) b) ≡ (a && not b)
 except-digit true true = refl
 except-digit true false = refl
@@ -116,7 +74,8 @@ module _ (m k : ℕ) where
 
 -- the cells of one set without those of another
 pub cell-except : (m o j : ℕ)
-    → getD (many (bitAt (bitXor (bitOr m o) o)) 0 48) j false ≡ (getD (many (bitAt m) 0 48) j false && not (getD (many (bitAt o) 0 48) j false))
+    → getD (many (bitAt (bitXor (bitOr m o) o)) 0 48) j false
+    ≡ (getD (many (bitAt m) 0 48) j false && not (getD (many (bitAt o) 0 48) j false))
 cell-except m o j =
     let r = bitXor (bitOr m o) o in
     elim (decLt j 48) [

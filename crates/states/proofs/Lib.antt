@@ -1,5 +1,5 @@
--- Laws of sets: `Cells`, of a set that is filled number by number; `Skip`, of loops that go from member to member.
+-- Laws of sets: `Cells`, of a set that is filled number by number; `Bits`, of a set whose bits are set and cleared; `Counts`, of the
+-- lowest and the highest member and of how many there are.
 pub mod Cells
 pub mod Bits
 mod Counts
-pub mod Skip

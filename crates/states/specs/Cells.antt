@@ -1,15 +1,9 @@
 -- A set of numbers shows a cell for each number below 48: number k is bit k.
 use mathlib.Core.Bool.{Bool, false}
 use mathlib.Core.List.{List}
-use Prim.Native.Nat.{ℕ, _^_}
-use lib.Bits.{bitOr, bitXor}
 use Rattle.words.specs.Loops.{many}
 use Rattle.marks.specs.Bits.{bitAt}
 use Rattle.states.specs.declared.StateSet.{StateSet}
-
--- The number without bit k: it is set, and then turned.
-unfoldable pub clearBit : ℕ → ℕ → ℕ
-clearBit m k = bitXor (bitOr m (2 ^ k)) (2 ^ k)
 
 unfoldable pub cells : StateSet → List Bool
 cells s = many (bitAt (s .bits)) 0 48

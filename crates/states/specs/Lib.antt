@@ -1,3 +1,2 @@
--- `Cells`: what a set shows; `Next`: its members one after another.
+-- `Cells`: what a set shows.
 pub mod Cells
-pub mod Next

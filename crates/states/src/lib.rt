@@ -5,9 +5,9 @@ ghost use mathlib.Core.Bool.{true, false, not, _&&_};
 ghost use Prim.Native.Nat.{ℕ, _<_, _≤_};
 ghost use lib.ListN.{getD, set};
 ghost use Rattle.words.specs.Loops.{rank};
-ghost use Rattle.marks.specs.Bits.{bitAt, setBit};
-ghost use Rattle.states.specs.Cells.{clearBit, cells, noCells};
-ghost use Rattle.states.specs.Next.{Next, Last};
+ghost use Rattle.words.specs.Next.{Next, Last};
+ghost use Rattle.marks.specs.Bits.{bitAt, setBit, clearBit};
+ghost use Rattle.states.specs.Cells.{cells, noCells};
 
 pub struct StateSet {
     bits: u64,
@@ -121,7 +121,7 @@ pub fn same(a: StateSet, b: StateSet) -> bool
 // The lowest number of the set from k on, below n; n where there is none.
 pub fn next(s: StateSet, k: usize, n: usize) -> usize
     requires { ⌜ (k ≤ n) × (n ≤ 48) ⌝ }
-    ensures { λ r. ⌜ Next (cells s) k n r ⌝ }
+    ensures { λ r. ⌜ Next (λ j. getD (cells s) j false) k n r ⌝ }
 {
     let r = k + u64::trailing_zeros(s.bits >> k) as usize;
     if r < n { r } else { n }
@@ -130,7 +130,7 @@ pub fn next(s: StateSet, k: usize, n: usize) -> usize
 // One more than the highest number of the set below k; 0 where there is none.
 pub fn last(s: StateSet, k: usize) -> usize
     requires { ⌜ k ≤ 48 ⌝ }
-    ensures { λ r. ⌜ Last (cells s) k r ⌝ }
+    ensures { λ r. ⌜ Last (λ j. getD (cells s) j false) k r ⌝ }
 {
     64 - u64::leading_zeros(s.bits & ((1u64 << k) - 1)) as usize
 }

@@ -52,6 +52,14 @@ pub fn number_in(t: &[u16], i: usize) -> usize
     wide(word_in(t, i))
 }
 
+// Word i of t, which has it, becomes v: nothing is tested.
+pub fn put_in(t: &mut [u16], i: usize, v: u16)
+    requires { ⌜ i < length (now t) ⌝ }
+    ensures { λ r. ⌜ now (t .exit) ≡ set (now (t .entry)) i v ⌝ }
+{
+    t[i] = v;
+}
+
 // Word i of t becomes v; past its end nothing changes.
 pub fn put(t: &mut [u16], i: usize, v: u16)
     ensures { λ r. ⌜ now (t .exit) ≡ set (now (t .entry)) i v ⌝ }

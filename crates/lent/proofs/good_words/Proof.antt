@@ -9,10 +9,10 @@ use native.Mathlib.Omega.{arith}
 use denote.Ref.{now}
 use Rattle.words.specs.Loops.{allBelow}
 use Rattle.words.proofs.Loops.{allBelow-next, allBelow-no}
+use Rattle.words.proofs.Skip.{all-skip}
 use Rattle.chart.specs.View.{Chart, view}
 use Rattle.chart_rules.proofs.Readable.{chart-needs}
 use Rattle.states.specs.Cells.{cells}
-use Rattle.states.proofs.Skip.{all-skip}
 use Rattle.meaning.specs.Active.{isOr}
 use Rattle.meaning.specs.State.{goodWord?}
 use Rattle.meaning.proofs.Tree.{tree}

@@ -19,8 +19,11 @@ step-chart-requires c κs =
 
 run-requires : tie.Need-run-requires
 run-requires c κs =
-    let s = c .before .before .before .before .before .before .before .before .before .before .before .before .before .args in
-    subst (Ready (now (s .t)) (now (s .own)) (s .ors)) (c .before .before .before .before .before .enum-told2 .given .1) (c .before .before .before .before .before .before .before .before .before .before .before .before .before .pre .0)
+    let start = c .before .before .before .before .before .before .before .before .before .before .before .before .before in
+    let s = start .args in
+    let is = c .before .before .before .before .before .enum-told2 .given .1 in
+    let flat = subst (Ready (now (s .t)) (now (s .own)) (s .ors)) is (start .pre .0) in
+    (flat .0, flat .1, start .pre .1 ∙ ap (λ (f : Form). wordsOf f (now (s .t))) is)
 
 returns : tie.Need-returns
 returns c =

@@ -6,7 +6,7 @@ use Rattle.marks.proofs.has.Tie as tie
 
 returns : tie.Need-returns
 unfolding marked
-returns c = cc
+returns c = rw (c .has-bit .ensures, c .before .word-in .ensures)
 
 pub has-spec : {M : Type 1} → statement M
 has-spec = tie.close (tie.spec

@@ -7,7 +7,7 @@ use Rattle.marks.proofs.with_bit.Tie as tie
 
 returns : tie.Need-returns
 unfolding setBit
-returns c = rw (one-shl (c .args .k) (c .pre))
+returns c = rw (one-shl 16 (c .args .k) (c .pre))
 
 pub with-bit-spec : {M : Type 1} → statement M
 with-bit-spec = tie.close (tie.spec (λ c. search needs) returns)

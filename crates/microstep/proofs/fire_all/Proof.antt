@@ -10,11 +10,11 @@ use lib.ListN.{length, getD}
 use Rattle.words.specs.Loops.{joinUp}
 use Rattle.effects.specs.Run.{Step}
 use Rattle.effects.specs.Work.{going, doSteps}
+use Rattle.effects.proofs.Members.{begun, risen}
 use Rattle.chart.specs.View.{Chart, view}
 use Rattle.chart_rules.proofs.Readable.{chart-needs}
 use Rattle.states.specs.Cells.{cells}
 use Rattle.meaning.specs.Steps.{fires}
-use Rattle.moves.proofs.Members.{begun, risen}
 use Rattle.microstep.proofs.fire_all.Statement.{statement}
 use Rattle.microstep.proofs.fire_all.Tie as tie
 
@@ -41,7 +41,7 @@ loop-holds c =
     let s = c .before .before .before .before .before .before .before .before .args in
     let e = c .next .ensures in
     let f = one (view (now (s .t))) (now (s .current)) (cells (s .acts)) (cells (s .taken)) in
-    (e .up-to, refl, refl, refl, refl, e .member, begun (s .room) f (cells (s .taken)) (λ j no. rw no refl) _ _ _ e)
+    (e .up-to, refl, refl, refl, refl, e .member, begun (s .room) f (λ j. getD (cells (s .taken)) j false) (λ j no. rw no refl) _ _ _ e)
 
 fire-requires : tie.Need-fire-requires Inv-loop μ-loop
 fire-requires c κs =
@@ -73,7 +73,7 @@ loop-again c =
       search needs,
       search needs,
       e .member,
-      risen (s .room) f (cells (s .taken)) (λ j no. rw no refl) (l .k) _ _ _ _ e
+      risen (s .room) f (λ j. getD (cells (s .taken)) j false) (λ j no. rw no refl) (l .k) _ _ _ _ e
           (c .before .before .before .before .before .before .before .before .before .fire .ensures ∙ ap (doSteps (s .room) (does (l .k))) (l .inv .6) ∙ rw has refl),
     )
 

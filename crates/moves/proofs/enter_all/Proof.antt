@@ -10,12 +10,12 @@ use lib.ListN.{length, getD}
 use Rattle.words.specs.Loops.{joinUp, when}
 use Rattle.effects.specs.Run.{Step}
 use Rattle.effects.specs.Work.{going, doStep, doSteps}
+use Rattle.effects.proofs.Members.{begun, risen}
 use Rattle.chart.specs.View.{Chart, view}
 use Rattle.chart_rules.proofs.Readable.{chart-needs}
 use Rattle.states.specs.Cells.{cells}
 use Rattle.meaning.specs.Steps.{enterStep}
 use Rattle.moves.specs.Below.{entersAll}
-use Rattle.moves.proofs.Members.{begun, risen}
 use Rattle.moves.proofs.enter_all.Statement.{statement}
 use Rattle.moves.proofs.enter_all.Tie as tie
 
@@ -42,7 +42,7 @@ loop-holds c =
     let s = c .before .before .before .before .before .before .before .args in
     let e = c .next .ensures in
     let f = one (view (now (s .t))) (cells (s .entered)) in
-    (e .up-to, refl, refl, refl, refl, e .member, begun (s .room) f (cells (s .entered)) (λ j no. rw no refl) _ _ _ e)
+    (e .up-to, refl, refl, refl, refl, e .member, begun (s .room) f (λ j. getD (cells (s .entered)) j false) (λ j no. rw no refl) _ _ _ e)
 
 enter-one-requires : tie.Need-enter-one-requires Inv-loop μ-loop
 enter-one-requires c κs =
@@ -78,7 +78,7 @@ loop-again c =
       search needs,
       search needs,
       e .member,
-      risen (s .room) f (cells (s .entered)) (λ j no. rw no refl) (l .j) _ _ _ _ e
+      risen (s .room) f (λ j. getD (cells (s .entered)) j false) (λ j no. rw no refl) (l .j) _ _ _ _ e
           (d .ensures ∙ ap (doStep (s .room) (enterStep v (l .j))) (l .inv .6) ∙ rw has refl),
     )
 

@@ -11,11 +11,11 @@ use lib.ListN.{length, getD}
 use Rattle.words.specs.Loops.{joinDown}
 use Rattle.effects.specs.Run.{Step}
 use Rattle.effects.specs.Work.{Going, going, doSteps}
+use Rattle.effects.proofs.Members.{sunk, fallen}
 use Rattle.chart.specs.View.{view}
 use Rattle.chart_rules.proofs.Readable.{chart-needs}
 use Rattle.states.specs.Cells.{cells}
 use Rattle.moves.proofs.Ands.{leave, leaves-ands}
-use Rattle.moves.proofs.Members.{sunk, fallen}
 use Rattle.moves.proofs.leave_all.Statement.{statement}
 use Rattle.moves.proofs.leave_all.Tie as tie
 
@@ -67,7 +67,8 @@ loop-again c =
       e .member,
       λ next.
           l .inv .5 next
-          ∙ fallen (s .room) (leave v ands (s .top)) ands (λ j no. rw no refl) (l .j) _ _ _ on e (rw has (d .ensures next)),
+          ∙ fallen (s .room) (leave v ands (s .top)) (λ j. getD ands j false) (λ j no. rw no refl) (l .j) _ _ _ on e
+          (rw has (d .ensures next)),
     )
 
 returns : tie.Need-returns Inv-loop μ-loop
@@ -85,7 +86,7 @@ returns c =
     sym (
     ap (λ (xs : List Step). doSteps (s .room) xs (start next)) (leaves-ands v (cells (s .acts)) (cells (s .ors)) (cells (x .result)) (s .top) (pre .1) (x .ensures))
     ∙ ap (λ (k : ℕ). doSteps (s .room) (joinDown f k) (start next)) (sym (c .before .before .before .head .ensures .0))
-    ∙ sunk (s .room) f (cells (x .result)) (λ j no. rw no refl) _ _ (start next) (c .before .before .last .ensures)
+    ∙ sunk (s .room) f (λ j. getD (cells (x .result)) j false) (λ j no. rw no refl) _ _ (start next) (c .before .before .last .ensures)
     ∙ l .inv .5 next
     ∙ ap (λ (k : ℕ). doSteps (s .room) (joinDown f k) (going (l .m) next (l .vars) (l .outs) (l .queue))) z)
 

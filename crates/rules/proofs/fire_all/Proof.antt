@@ -1,75 +1,103 @@
--- `rules::fire_all` meets its contract: of the rules before those left those have fired that fire. Assumes nothing.
+-- `rules::fire_all` meets its contract: the rules before k have fired, and k has the trigger. Assumes nothing.
 use borrow.Author.Needs.{needs}
-use Prim.Native.Nat.{ℕ, _+_, _-_, _≤_}
-use mathlib.Core.Path.{_≡_, refl, ap, _∙_}
-use mathlib.Core.Bool.{Bool}
+use Prim.Native.Nat.{_-_, _<_, _≤_}
+use mathlib.Core.Path.{_≡_, refl, sym, ap, ap₂, _∙_}
+use mathlib.Core.Bool.{true}
 use mathlib.Core.List.{List}
 use native.Mathlib.Omega.{arith}
 use denote.Ref.{now}
 use lib.ListN.{length}
-use Rattle.words.specs.Loops.{joinUp, when}
+use Rattle.words.specs.Loops.{joinUp}
 use Rattle.effects.specs.Run.{Step}
 use Rattle.effects.specs.Work.{going, doSteps}
-use Rattle.effects.proofs.Going.{rises}
-use Rattle.flat.specs.View.{Flat, flatView, ruleAt}
-use Rattle.flat_rules.proofs.Readable.{flat-needs}
-use Rattle.flat_meaning.specs.Steps.{ruleStep, fires?, firing}
+use Rattle.effects.proofs.Members.{begun, risen}
+use Rattle.flat.specs.View.{flatView}
+use Rattle.flat_rules.proofs.Readable.{flat-readable}
 use Rattle.marks.specs.Bits.{marked}
+use Rattle.rules.specs.Stretch.{has?}
+use Rattle.rules.proofs.Firing.{firesWith, no-step, its-step, firing-before}
 use Rattle.rules.proofs.fire_all.Statement.{statement}
 use Rattle.rules.proofs.fire_all.Tie as tie
 
--- the step of rule k, where it fires
-abbrev one : Flat → ℕ → (ℕ → Bool) → ℕ → List Step
-one f e known k = when (fires? f e known k) (ruleStep f k)
-
 abbrev Inv-loop : tie.InvT-loop
-Inv-loop t marks e room next₀ vars₀ outs₀ queue₀ rules m₀ at₀ left₀ next vars outs queue m at left =
-    (left ≤ rules) × (at ≡ ruleAt t (rules - left))
-    × (length next ≡ length next₀) × (length vars ≡ length vars₀) × (length outs ≡ length outs₀) × (length queue ≡ length queue₀)
-    × (going m next vars outs queue
-    ≡ doSteps room (joinUp (one (flatView t) e (marked marks)) (rules - left)) (going m₀ next₀ vars₀ outs₀ queue₀))
+Inv-loop t marks e from until room next₀ vars₀ outs₀ queue₀ m₀ k₀ next vars outs queue m k =
+    (k ≤ until) × (length next ≡ length next₀) × (length vars ≡ length vars₀) × (length outs ≡ length outs₀)
+    × (length queue ≡ length queue₀) × (k < until → has? (flatView t) e k ≡ true)
+    × (going m next vars outs queue ≡ doSteps room (joinUp (firesWith (flatView t) e (marked marks)) k) (going m₀ next₀ vars₀ outs₀ queue₀))
 
 abbrev μ-loop : tie.MeasureT-loop
-μ-loop t marks e room next₀ vars₀ outs₀ queue₀ rules m₀ at₀ left₀ next vars outs queue m at left = left
+μ-loop t marks e from until room next₀ vars₀ outs₀ queue₀ m₀ k₀ next vars outs queue m k = until - k
 
 loop-holds : tie.Need-loop-holds Inv-loop μ-loop
-unfolding doSteps
 loop-holds c =
-    let rules = c .before .head .result in
-    let z : rules - rules ≡ 0 = omega arith in
-    (omega arith, omega (arith, c .head2 .ensures), refl, refl, refl, refl, rw z refl)
+    let p = c .before .before .before .before .before .before in
+    let s = p .args in
+    let stretch = p .pre .2 in
+    let f = flatView (now (s .t)) in
+    let known = marked (now (s .marks)) in (
+      stretch .order,
+      refl,
+      refl,
+      refl,
+      refl,
+      λ l. stretch .first .member (omega (arith, stretch .inside, l)),
+      begun (s .room) (firesWith f (s .e) known) (has? f (s .e)) (no-step f (s .e) known) _ _ _ (stretch .first),
+    )
+
+fire-one-requires : tie.Need-fire-one-requires Inv-loop μ-loop
+fire-one-requires c κs =
+    let test = c .before .before .before .before in
+    let pre = test .before .before .before .before .before .before .before .before .pre in
+    (pre .0, omega (arith, pre .2 .inside, test .loop-test .taken), pre .1)
+
+seek-requires : tie.Need-seek-requires Inv-loop μ-loop
+seek-requires c κs =
+    let test = c .before .before .before .before .before .before .before .before .before .before .before .before .before in
+    let pre = test .before .before .before .before .before .before .before .before .pre in
+    (flat-readable (pre .0), omega (arith, test .loop-test .taken), pre .2 .inside)
+
+loop-less : tie.Need-loop-less Inv-loop μ-loop
+loop-less c =
+    let test = c .before .before .before .before .before .before .before .before .before .before .before .before .before .before in
+    omega (arith, c .seek .ensures .from, c .seek .ensures .up-to, test .loop-test .taken)
 
 loop-again : tie.Need-loop-again Inv-loop μ-loop
 loop-again c =
-    let s = c .before .before .before .before .before .before .before .before .before .before .before .before .before .before .before .before .before .before .before .before .before .before .before .args in
-    let l = c .before .before .before .before .before .before .before .before .before .before .before .before .before .before .loop in
-    let f = one (flatView (now (s .t))) (s .e) (marked (now (s .marks))) in
-    let rules = c .before .before .before .before .before .before .before .before .before .before .before .before .before .before .before .before .head .result in
-    let k = rules - l .left in
-    let e : rules - (l .left - 1) ≡ k + 1 = omega arith in (
-      omega arith,
-      omega (arith, l .inv .1),
+    let fired = c .before .before .before .before .before .before .before .before .before in
+    let test = fired .before .before .before .before .before in
+    let l = test .before .loop in
+    let s = test .before .before .before .before .before .before .before .before .args in
+    let e = c .seek .ensures in
+    let f = flatView (now (s .t)) in
+    let known = marked (now (s .marks)) in
+    let its = its-step f (s .e) known (l .k) (l .inv .5 (test .loop-test .taken)) in (
+      e .up-to,
       search needs,
       search needs,
       search needs,
       search needs,
-      rw e (rises (s .room) f k _ _ (c .before .before .before .before .before .before .before .before .fire-one .ensures ∙ ap (doSteps (s .room) (f k)) (l .inv .6))),
+      e .member,
+      risen (s .room) (firesWith f (s .e) known) (has? f (s .e)) (no-step f (s .e) known) (l .k) _ _ _ _ e
+          (fired .fire-one .ensures ∙ ap₂ (doSteps (s .room)) its (l .inv .6)),
     )
 
 returns : tie.Need-returns Inv-loop μ-loop
-unfolding firing
 returns c =
-    let s = c .before .before .before .before .before .before .before .before .before .before .args in
+    let p = c .before .before .before .before .before .before .before .before in
+    let s = p .args in
     let l = c .before .loop in
-    let f = one (flatView (now (s .t))) (s .e) (marked (now (s .marks))) in
-    let rules = c .before .before .before .head in
-    let z : rules .result - l .left ≡ flatView (now (s .t)) .rules = omega (arith, rules .ensures .0) in
-    l .inv .6 ∙ ap (λ (k : ℕ). doSteps (s .room) (joinUp f k) (going (s .n) (now (s .next)) (now (s .vars)) (now (s .outs)) (now (s .queue)))) z
+    let stretch = p .pre .2 in
+    let f = flatView (now (s .t)) in
+    let known = marked (now (s .marks)) in
+    let g = going (s .n) (now (s .next)) (now (s .vars)) (now (s .outs)) (now (s .queue)) in
+    let end : l .k ≡ s .until = omega (arith, l .inv .0, c .loop-test .left) in
+    l .inv .6
+    ∙ ap (λ (xs : List Step). doSteps (s .room) xs g)
+    (ap (joinUp (firesWith f (s .e) known)) end ∙ sym (firing-before f (s .e) known (s .until) (stretch .inside) (stretch .after)))
 
 pub fire-all-spec : {M : Type 1} → statement M
 fire-all-spec =
     tie.close
     (tie.spec
-    Inv-loop μ-loop (λ c κs. search flat-needs) (λ c κs. search flat-needs) loop-holds (λ c. search needs) (λ c κs. search needs)
-    (λ c. search needs) (λ c. search needs) (λ c. search needs) loop-again (λ c. search needs) (λ c. search needs)
-    (λ c. search needs) (λ c. search needs) returns)
+    Inv-loop μ-loop loop-holds fire-one-requires (λ c. search needs) seek-requires loop-less loop-again
+    (λ c. search needs) (λ c. search needs) (λ c. search needs) (λ c. search needs) returns)

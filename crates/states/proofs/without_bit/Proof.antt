@@ -1,14 +1,14 @@
 -- `states::without_bit` meets its contract: the shift loses nothing. Assumes nothing.
 use native.Mathlib.Omega.{arith}
-use Rattle.states.specs.Cells.{clearBit}
-use Rattle.states.proofs.Bits.{one-shl}
+use Rattle.marks.specs.Bits.{clearBit}
+use Rattle.marks.proofs.Bits.{one-shl}
 use borrow.Author.Needs.{needs}
 use Rattle.states.proofs.without_bit.Statement.{statement}
 use Rattle.states.proofs.without_bit.Tie as tie
 
 returns : tie.Need-returns
 unfolding clearBit
-returns c = rw (one-shl (c .args .k) (omega (arith, c .pre)))
+returns c = rw (one-shl 64 (c .args .k) (omega (arith, c .pre)))
 
 pub without-bit-spec : {M : Type 1} → statement M
 without-bit-spec = tie.close (tie.spec

@@ -9,12 +9,12 @@ use native.Mathlib.Omega.{arith}
 use lib.ListN.{getD}
 use denote.Ref.{now}
 use Rattle.words.specs.Loops.{allBelow}
+use Rattle.words.specs.Next.{Next}
 use Rattle.words.proofs.Loops.{allBelow-all, allBelow-next, allBelow-no}
+use Rattle.words.proofs.Skip.{all-skip}
 use Rattle.chart.specs.View.{Chart, view}
 use Rattle.chart_rules.proofs.Readable.{chart-needs}
 use Rattle.states.specs.Cells.{cells}
-use Rattle.states.specs.Next.{Next}
-use Rattle.states.proofs.Skip.{all-skip}
 use Rattle.meaning.specs.Scope.{related}
 use Rattle.taken.proofs.Scope.{unscoped, near}
 use Rattle.taken.proofs.is_free.Statement.{statement}
@@ -36,7 +36,8 @@ record Passed (c : Chart) (taken : List Bool) (k s : ℕ) : Type 0 where
   member : s < k → getD taken s false ≡ true
 
 -- what is not taken lets k be taken
-pass : (c : Chart) (taken : List Bool) (k j s : ℕ) → allBelow (lets? c taken k) j ≡ true → Next taken j k s → Passed c taken k s
+pass : (c : Chart) (taken : List Bool) (k j s : ℕ) → allBelow (lets? c taken k) j ≡ true → Next (λ i. getD taken i false) j k s
+    → Passed c taken k s
 pass c taken k j s e next = record {
   up-to = next .up-to;
   let-be = all-skip (lets? c taken k) j s (next .from) (λ i l h. rw (next .skipped i l h) refl) ∙ e;

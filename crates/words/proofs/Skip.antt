@@ -4,9 +4,9 @@ use native.Mathlib.Nat.{le-refl}
 use native.Mathlib.Decide.{le-ind}
 use native.Mathlib.Omega.{arith}
 use mathlib.Core.Path.{_≡_, refl, ap, ap₂, _∙_}
-use mathlib.Core.Bool.{Bool, true, false, cond, _&&_}
+use mathlib.Core.Bool.{Bool, true, false, cond, _&&_, and-true}
 use mathlib.Core.List.{List, [], _++_, append-nil}
 use Rattle.words.specs.Loops.{joinUp, joinDown, rank, allBelow}
 
 -- from k on up to r: what holds of k, and goes on from each number to the next, holds of r
 climb : (P : ℕ → Type 0) (S : ℕ → Type 0) (k r : ℕ) → k ≤ r → P k → ((j : ℕ) → S j → P j → P (suc j))
@@ -36,10 +36,6 @@ module _ (p : ℕ → Bool) (k r : ℕ) (h : k ≤ r) where
   all-skip =
       climb (λ (n : ℕ). allBelow p n ≡ allBelow p k) (λ (j : ℕ). p j ≡ true) k r h refl
       (λ j e ih. ap₂ _&&_ ih e ∙ and-true (allBelow p k))
-    where
-      and-true : (b : Bool) → (b && true) ≡ b
-      and-true true = refl
-      and-true false = refl
 
 -- two tests that agree below n have the same rank
 pub rank-cong : (p q : ℕ → Bool) (n : ℕ) → ((j : ℕ) → j < n → p j ≡ q j) → rank p n ≡ rank q n
