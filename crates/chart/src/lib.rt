@@ -98,6 +98,15 @@ pub fn state_word(t: &[u16], k: usize, r: usize) -> usize
     words::number_in(t, state_at(t, k) + r)
 }
 
+// Word r of transition k, whose words begin at `place`.
+pub fn transition_word_at(t: &[u16], k: usize, place: usize, r: usize) -> usize
+    requires { ⌜ Readable (now t) × (k < view (now t) .transitions) × (place ≡ transitionAt (now t) k) × (r < 8) ⌝ }
+    ensures is { λ x. ⌜ x ≡ at (now (t .entry)) (transitionAt (now (t .entry)) k + r) ⌝ }
+    ensures small { λ x. ⌜ x < 65536 ⌝ }
+{
+    words::number_in(t, place + r)
+}
+
 // Word r of transition k.
 pub fn transition_word(t: &[u16], k: usize, r: usize) -> usize
     requires { ⌜ Readable (now t) × (k < view (now t) .transitions) × (r < 8) ⌝ }

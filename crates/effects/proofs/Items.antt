@@ -13,7 +13,7 @@ use Rattle.table.specs.Items.{itemIn}
 use Rattle.effects.specs.Work.{Work, stopped?, doItem, doItems, itemsFrom, spanItems}
 
 module _ (t : List ℕ) (room at k : ℕ) (w : Work) where
-  pub step : 0 < k → stopped? (w .n .stop) ≡ false
+  pub step : 0 < k → stopped? (w .n) ≡ false
       → doItems room (itemsFrom t at k) w
       ≡ doItems room (itemsFrom t (at + 3) (k - 1)) (doItem room (itemIn (tripleAt t at)) w)
   unfolding doItems itemsFrom
@@ -21,7 +21,7 @@ module _ (t : List ℕ) (room at k : ℕ) (w : Work) where
       let z : k ≡ suc (k - 1) = omega arith in
       ap (λ (n : ℕ). doItems room (itemsFrom t at n) w) z ∙ rw (doItems, e)
 
-  pub stop : 0 < k → stopped? (w .n .stop) ≡ true → doItems room (itemsFrom t at k) w ≡ w
+  pub stop : 0 < k → stopped? (w .n) ≡ true → doItems room (itemsFrom t at k) w ≡ w
   unfolding doItems itemsFrom
   stop h e = let z : k ≡ suc (k - 1) = omega arith in rw (z, doItems, e)
 

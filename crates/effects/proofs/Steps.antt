@@ -1,39 +1,23 @@
--- The steps of a microstep, done one after the other, show what the microstep means, and are counted by their tags; up
--- to 2^32 no count starts again. Assumes nothing.
-use Prim.Native.Nat.{ℕ, suc, _+_, _≤_, _<_}
+-- The steps of a microstep, done one after the other, show what the microstep means, and are counted by their tags, as long as
+-- no count reaches the next. Assumes nothing.
+use Prim.Native.Nat.{ℕ, _+_, _≤_, _<_}
 use mathlib.Core.Path.{_≡_, refl, ap, _∙_}
-use mathlib.Core.List.{List, [], _∷_}
+use mathlib.Core.List.{List, [], _∷_, _++_}
 use native.Mathlib.Nat.{add-zero}
 use native.Mathlib.Omega.{arith}
 use lib.ListN.{length}
 use Rattle.table.specs.declared.Item.{Item}
 use Rattle.effects.specs.Run.{Env, items, Tag, leave, take, enter, Step, doesOf, setAll, isLeave, isTake, isEnter, count}
-use Rattle.effects.specs.Work.{Work, more, tagged, doItems, doStep, doSteps}
+use Rattle.effects.specs.Work.{Work, plus, one, doStep, doSteps}
 use Rattle.effects.proofs.Stops.{doSteps-stop, items-append}
-use Rattle.effects.proofs.Shows.{Counts, shown, Fits, Shows, fine, more-is, follow, items-shows}
+use Rattle.effects.proofs.Raised.{AllSmall}
+use Rattle.effects.proofs.Packed.{packCounts, one-more}
+use Rattle.effects.proofs.Shows.{shown, Fits, Shows, fine, follow, items-shows}
 
 -- as the code counts
-abbrev pub tally : Tag → Counts → Counts
-tally leave k = record { micro = k .micro; left = more (k .left); taken = k .taken; entered = k .entered }
-tally take k = record { micro = k .micro; left = k .left; taken = more (k .taken); entered = k .entered }
-tally enter k = record { micro = k .micro; left = k .left; taken = k .taken; entered = more (k .entered) }
-
-abbrev pub tallies : List Step → Counts → Counts
-tallies [] k = k
-tallies (x ∷ xs) k = tallies xs (tally (x .tag) k)
-
--- as is meant
-abbrev plus : Counts → ℕ → ℕ → ℕ → Counts
-plus k a b c = record { micro = k .micro; left = k .left + a; taken = k .taken + b; entered = k .entered + c }
-
-abbrev pub sums : List Step → Counts → Counts
-sums xs k = plus k (count isLeave xs) (count isTake xs) (count isEnter xs)
-
--- n more can be counted
-pub record Small (n : ℕ) (k : Counts) : Type 0 where
-  pub left : k .left + n < 4294967296
-  pub taken : k .taken + n < 4294967296
-  pub entered : k .entered + n < 4294967296
+abbrev pub tallies : List Step → ℕ → ℕ
+tallies [] c = c
+tallies (x ∷ xs) c = tallies xs (plus c (one (x .tag)))
 
 one-of : (g : Tag) → isLeave g + isTake g + isEnter g ≡ 1
 one-of leave = refl
@@ -45,58 +29,48 @@ pub count-all : (xs : List Step) → count isLeave xs + count isTake xs + count 
 count-all [] = refl
 count-all (x ∷ xs) = omega (arith, one-of (x .tag), count-all xs)
 
-tally-is : (g : Tag) {k : Counts} {n : ℕ} → Small (suc n) k → tally g k ≡ plus k (isLeave g) (isTake g) (isEnter g)
-tally-is leave {k} h = simp (more-is (k .left) (k .left + 1) (omega (arith, h .left)) refl, add-zero)
-tally-is take {k} h = simp (more-is (k .taken) (k .taken + 1) (omega (arith, h .taken)) refl, add-zero)
-tally-is enter {k} h = simp (more-is (k .entered) (k .entered + 1) (omega (arith, h .entered)) refl, add-zero)
+-- as is meant
+pub tallies-are : (xs : List Step) (taken left entered : ℕ)
+    → taken + length xs < 1048576 → left + length xs < 1048576 → entered + length xs < 1048576
+    → tallies xs (packCounts taken left entered)
+    ≡ packCounts (taken + count isTake xs) (left + count isLeave xs) (entered + count isEnter xs)
+tallies-are [] taken left entered t l e = simp add-zero
+tallies-are (x ∷ xs) taken left entered t l e =
+    let g = x .tag in
+    let o = one-of g in
+    let a : taken + isTake g + count isTake xs ≡ taken + (isTake g + count isTake xs) = omega arith in
+    let b : left + isLeave g + count isLeave xs ≡ left + (isLeave g + count isLeave xs) = omega arith in
+    let c : entered + isEnter g + count isEnter xs ≡ entered + (isEnter g + count isEnter xs) = omega arith in
+    ap (tallies xs) (one-more taken left entered g (omega arith) (omega arith) (omega arith))
+    ∙ tallies-are xs (taken + isTake g) (left + isLeave g) (entered + isEnter g) (omega arith) (omega arith) (omega arith)
+    ∙ rw (a, b, c) refl
 
-plus-plus : (k : Counts) (a b c d e f : ℕ) → plus (plus k a b c) d e f ≡ plus k (a + d) (b + e) (c + f)
-plus-plus k a b c d e f =
-    let x : k .left + a + d ≡ k .left + (a + d) = omega arith in
-    let y : k .taken + b + e ≡ k .taken + (b + e) = omega arith in
-    let z : k .entered + c + f ≡ k .entered + (c + f) = omega arith in
-    rw (x, y, z) refl
+small-parts : (xs ys : List Item) → AllSmall (xs ++ ys) → AllSmall xs × AllSmall ys
+small-parts [] ys h = (tt, h)
+small-parts (x ∷ xs) ys h = let r = small-parts xs ys (h .1) in ((h .0, r .0), r .1)
 
-pub tallies-are : (xs : List Step) (k : Counts) → Small (length xs) k → tallies xs k ≡ sums xs k
-tallies-are [] k h = simp add-zero
-tallies-are (x ∷ xs) k h =
-    let one = one-of (x .tag) in
-    let next : Small (length xs) (plus k (isLeave (x .tag)) (isTake (x .tag)) (isEnter (x .tag))) = record {
-      left = omega (arith, h .left);
-      taken = omega (arith, h .taken);
-      entered = omega (arith, h .entered);
-    } in
-    ap (tallies xs) (tally-is (x .tag) h)
-    ∙ tallies-are xs _ next
-    ∙ plus-plus k _ _ _ _ _ _
-
-module _ (room : ℕ) (small : room ≤ 256) (o : List ℕ) (head : ℕ) where
-  -- a step's items, where the step is counted first
-  tagged-shows : (g : Tag) (k : Counts) (xs : List Item) (v : Env) (q : List ℕ) → Fits room head v q
-      → Shows room o head (tally g k) (items room xs v) (doItems room xs (tagged g (shown o head k v q)))
-  tagged-shows leave k = items-shows room small o head (tally leave k)
-  tagged-shows take k = items-shows room small o head (tally take k)
-  tagged-shows enter k = items-shows room small o head (tally enter k)
-
+module _ (room : ℕ) (small : room ≤ 256) (o : List ℕ) (head micro : ℕ) (soon : micro ≤ 64) where
   abbrev workAfter : List Step → List ℕ → Work → Work
   workAfter xs words w = doSteps room xs (record { does = w; words = words }) .does
 
   -- the steps show what their items mean, from wherever the code is
-  abbrev AllShow : List Step → Counts → List ℕ → Type 0
-  AllShow xs k words = (v : Env) (q : List ℕ) → Fits room head v q
-      → Shows room o head (tallies xs k) (items room (doesOf xs) v) (workAfter xs words (shown o head k v q))
+  abbrev AllShow : List Step → ℕ → List ℕ → Type 0
+  AllShow xs c words = (v : Env) (q : List ℕ) → Fits room head v q
+      → Shows room o head micro (tallies xs c) (items room (doesOf xs) v) (workAfter xs words (shown o head micro c v q))
 
-  step-shows : (x : Step) (xs : List Step) (k : Counts) (words : List ℕ)
-      → AllShow xs (tally (x .tag) k) (setAll (x .sets) words) → AllShow (x ∷ xs) k words
+  step-shows : (x : Step) (xs : List Step) (c : ℕ) (words : List ℕ) → AllSmall (x .does)
+      → AllShow xs (plus c (one (x .tag))) (setAll (x .sets) words) → AllShow (x ∷ xs) c words
   unfolding doSteps doStep
-  step-shows x xs k words rest v q f =
+  step-shows x xs c words h rest v q f =
       rw (items-append room (x .does) (doesOf xs) v)
-      (follow room small o head (items room (doesOf xs)) (workAfter xs (setAll (x .sets) words)) rest
+      (follow room small o head micro soon (items room (doesOf xs)) (workAfter xs (setAll (x .sets) words)) rest
       (λ u e. doSteps-stop room xs (record { does = u; words = setAll (x .sets) words }) e)
-      (tagged-shows (x .tag) k (x .does) v q f))
+      (items-shows room small o head micro soon (plus c (one (x .tag))) (x .does) h v q f))
 
-  pub steps-shows : (xs : List Step) (k : Counts) (words : List ℕ) → AllShow xs k words
+  pub steps-shows : (xs : List Step) (c : ℕ) (words : List ℕ) → AllSmall (doesOf xs) → AllShow xs c words
   unfolding doSteps items
-  steps-shows [] k words v q f = fine f
-  steps-shows (x ∷ xs) k words v q f =
-      step-shows x xs k words (λ u p g. steps-shows xs (tally (x .tag) k) (setAll (x .sets) words) u p g) v q f
+  steps-shows [] c words h v q f = fine f
+  steps-shows (x ∷ xs) c words h v q f =
+      let s = small-parts (x .does) (doesOf xs) h in
+      step-shows x xs c words (s .0)
+      (λ u p g. steps-shows xs (plus c (one (x .tag))) (setAll (x .sets) words) (s .1) u p g) v q f

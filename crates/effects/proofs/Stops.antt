@@ -4,15 +4,16 @@ use mathlib.Core.Path.{_≡_, refl, sym, ap, _∙_}
 use mathlib.Core.Bool.{true}
 use mathlib.Core.List.{List, [], _∷_, _++_}
 use lib.ListN.{set}
+use lib.Dec.{leb}
 use Rattle.table.specs.declared.Item.{Item}
 use Rattle.effects.specs.declared.Progress.{Progress}
-use Rattle.effects.specs.Run.{Env, Result, ok, refuse, _>>=_, item, items, Tag, leave, take, enter, Step, setAll, setsOf}
-use Rattle.effects.specs.Work.{Work, Going, stopped?, counted, tagged, doItems, doStep, doSteps}
+use Rattle.effects.specs.Run.{Env, Result, ok, refuse, _>>=_, item, items, Step, setAll, setsOf}
+use Rattle.effects.specs.Work.{Work, Going, stopped?, tagged, doItems, doStep, doSteps}
 
-counted-stop : (g : Tag) (n : Progress) → counted g n .stop ≡ n .stop
-counted-stop leave n = refl
-counted-stop take n = refl
-counted-stop enter n = refl
+-- whether it has stopped is seen from `rest` alone
+stays : (m n : Progress) → m .rest ≡ n .rest → stopped? n ≡ true → stopped? m ≡ true
+unfolding stopped?
+stays m n e h = ap (leb 4611686018427387904) e ∙ h
 
 pub setAll-append : (ps qs : List (ℕ × ℕ)) (l : List ℕ) → setAll (ps ++ qs) l ≡ setAll qs (setAll ps l)
 setAll-append [] qs l = refl
@@ -20,26 +21,25 @@ setAll-append (p ∷ ps) qs l = setAll-append ps qs (set l (p .0) (p .1))
 
 module _ (room : ℕ) where
   -- ---- a stop
-  pub doItems-stopped : (xs : List Item) (w : Work) → stopped? (w .n .stop) ≡ true → doItems room xs w ≡ w
+  pub doItems-stopped : (xs : List Item) (w : Work) → stopped? (w .n) ≡ true → doItems room xs w ≡ w
   unfolding doItems
   doItems-stopped [] w e = refl
   doItems-stopped (x ∷ xs) w e = rw e refl
 
-  doStep-stop : (x : Step) (g : Going)
-      → stopped? (g .does .n .stop) ≡ true → doStep room x g .does .n .stop ≡ g .does .n .stop
+  doStep-stop : (x : Step) (g : Going) → stopped? (g .does .n) ≡ true → doStep room x g .does .n .rest ≡ g .does .n .rest
   unfolding doStep
   doStep-stop x g e =
-      let k = counted-stop (x .tag) (g .does .n) in
-      ap (λ (w : Work). w .n .stop) (doItems-stopped (x .does) (tagged (x .tag) (g .does)) (ap stopped? k ∙ e)) ∙ k
+      let w = tagged (x .tag) (g .does) in
+      ap (λ (u : Work). u .n .rest) (doItems-stopped (x .does) w (stays (w .n) (g .does .n) refl e))
 
   -- steps after a stop only count and set words
   pub doSteps-stop : (xs : List Step) (g : Going)
-      → stopped? (g .does .n .stop) ≡ true → doSteps room xs g .does .n .stop ≡ g .does .n .stop
+      → stopped? (g .does .n) ≡ true → doSteps room xs g .does .n .rest ≡ g .does .n .rest
   unfolding doSteps
   doSteps-stop [] g e = refl
   doSteps-stop (x ∷ xs) g e =
       let k = doStep-stop x g e in
-      doSteps-stop xs (doStep room x g) (ap stopped? k ∙ e) ∙ k
+      doSteps-stop xs (doStep room x g) (stays (doStep room x g .does .n) (g .does .n) k e) ∙ k
 
   -- ---- joined
   pub doSteps-append : (xs ys : List Step) (g : Going) → doSteps room (xs ++ ys) g ≡ doSteps room ys (doSteps room xs g)

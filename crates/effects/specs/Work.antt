@@ -1,11 +1,12 @@
--- A macrostep as the code goes through it: variables, outputs and queue are words in lent slices, and what is counted is a
--- struct. The queue is a ring of 32 words: at most 32 signals wait, so signal k, counted from the macrostep's start, stands
--- at word k % 32. proofs/Same.antt shows that this gives what specs/Run.antt says.
-use mathlib.Core.Bool.{Bool, true, false, cond, _||_}
+-- A macrostep as the code goes through it: variables and outputs are words in lent slices, the queue is bytes, and what
+-- is counted is a struct of two numbers. The queue is a ring of 32 bytes: at most 32 signals wait, so signal k, counted from the
+-- macrostep's start, stands at byte k % 32. proofs/Same.antt shows that this gives what specs/Run.antt says.
+use mathlib.Core.Bool.{Bool, cond, _||_}
 use mathlib.Core.List.{List, [], _∷_}
-use Prim.Native.Nat.{ℕ, zero, suc, _+_, _*_, _%_, _<_, _≤_}
+use Prim.Native.Nat.{ℕ, zero, suc, _+_, _*_, _/_, _%_, _<_, _≤_}
 use lib.ListN.{length, getD, set}
 use lib.Dec.{eqb, leb}
+use lib.Bits.{bitOr}
 use Rattle.words.specs.Signed.{wrapAdd, satAdd}
 use Rattle.words.specs.Loops.{many}
 use Rattle.table.specs.Triple.{tripleAt}
@@ -16,12 +17,40 @@ use Rattle.table.specs.declared.Refusal.{Refusal}
 use Rattle.table.specs.declared.Refusal.the-variants.{Signals as signals, Outputs as outputs, Microsteps as microsteps}
 use Rattle.effects.specs.Run.{Tag, leave, take, enter, Step, Machine, setAll}
 use Rattle.effects.specs.declared.Stop.{Stop}
-use Rattle.effects.specs.declared.Stop.the-variants.{Fine, Signals, Outputs, Microsteps}
+use Rattle.effects.specs.declared.Stop.the-variants.{Signals, Outputs, Microsteps}
 use Rattle.effects.specs.declared.Progress.{Progress}
 
--- One more, in 32 bits.
-abbrev pub more : ℕ → ℕ
-more x = (x + 1) % 4294967296
+-- ---- what is counted, in two numbers of 64 bits
+-- From bit 40 on the transitions taken, or the rules fired; from bit 20 on the states left; below, the states entered.
+abbrev pub takenOf : Progress → ℕ
+takenOf n = n .counts / 1099511627776
+
+abbrev pub leftOf : Progress → ℕ
+leftOf n = n .counts / 1048576 % 1048576
+
+abbrev pub enteredOf : Progress → ℕ
+enteredOf n = n .counts % 1048576
+
+-- From bit 62 on why it has stopped, 0 where it has not; from bit 48 on the microsteps; from bit 32 on the signals raised (tail) and
+-- from bit 16 on those taken (head); below, the outputs.
+abbrev pub microOf : Progress → ℕ
+microOf n = n .rest / 281474976710656 % 16384
+
+abbrev pub tailOf : Progress → ℕ
+tailOf n = n .rest / 4294967296 % 65536
+
+abbrev pub headOf : Progress → ℕ
+headOf n = n .rest / 65536 % 65536
+
+abbrev pub outsOf : Progress → ℕ
+outsOf n = n .rest % 65536
+
+unfoldable pub stopped? : Progress → Bool
+stopped? n = leb 4611686018427387904 (n .rest)
+
+-- A number more, in 64 bits.
+abbrev pub plus : ℕ → ℕ → ℕ
+plus x y = (x + y) % 18446744073709551616
 
 pub record Work : Type 0 where
   pub n : Progress
@@ -32,72 +61,43 @@ pub record Work : Type 0 where
 abbrev pub work : Progress → List ℕ → List ℕ → List ℕ → Work
 work n vars outs queue = record { n = n; vars = vars; outs = outs; queue = queue }
 
-abbrev pub stopped? : Stop → Bool
-stopped? Fine = false
-stopped? Signals = true
-stopped? Outputs = true
-stopped? Microsteps = true
-
--- The refusal that a stop stands for; `Fine` stands for none.
-abbrev pub refusalOf : Stop → Refusal
-refusalOf Fine = signals
-refusalOf Signals = signals
-refusalOf Outputs = outputs
-refusalOf Microsteps = microsteps
+-- The bits of a stop, and the refusal that it stands for.
+abbrev pub bitsOf : Stop → ℕ
+bitsOf Signals = 4611686018427387904
+bitsOf Outputs = 9223372036854775808
+bitsOf Microsteps = 13835058055282163712
 
 abbrev pub stopAt : Stop → Progress → Progress
-stopAt s n = record {
-  outs = n .outs;
-  head = n .head;
-  tail = n .tail;
-  micro = n .micro;
-  left = n .left;
-  taken = n .taken;
-  entered = n .entered;
-  stop = s;
-}
+stopAt s n = record { counts = n .counts; rest = bitOr (n .rest) (bitsOf s) }
+
+-- The refusal that a progress that has stopped stands for.
+unfoldable pub refusalOf : Progress → Refusal
+refusalOf n =
+    cond (leb 13835058055282163712 (n .rest)) microsteps (cond (leb 9223372036854775808 (n .rest)) outputs signals)
 
 -- the progress at a macrostep's start
 abbrev pub fresh : Progress
-fresh = record { outs = 0; head = 0; tail = 0; micro = 0; left = 0; taken = 0; entered = 0; stop = Fine }
+fresh = record { counts = 0; rest = 0 }
+
+-- so much more of what `rest` counts
+abbrev pub further : ℕ → Progress → Progress
+further x n = record { counts = n .counts; rest = plus (n .rest) x }
 
 -- one output more, where there is room
 unfoldable pub doEmit : ℕ → ℕ → ℕ → Progress × List ℕ → Progress × List ℕ
 doEmit room a v w =
     let n = w .0 in
-    cond (leb room (n .outs))
-    (stopAt Outputs n, w .1) (
-      record {
-        outs = more (n .outs);
-        head = n .head;
-        tail = n .tail;
-        micro = n .micro;
-        left = n .left;
-        taken = n .taken;
-        entered = n .entered;
-        stop = n .stop;
-      },
-      set (set (w .1) (2 * n .outs) a) (2 * n .outs + 1) v,
-    )
+    cond (leb room (outsOf n))
+    (stopAt Outputs n, w .1)
+    (further 1 n, set (set (w .1) (2 * outsOf n) a) (2 * outsOf n + 1) v)
 
--- one signal more, where fewer than 32 wait
+-- one signal more, where fewer than 32 wait; a signal's number is below 32, so that a byte holds it
 unfoldable pub doRaise : ℕ → Progress × List ℕ → Progress × List ℕ
 doRaise k w =
     let n = w .0 in
-    cond (leb (n .head + 32) (n .tail))
-    (stopAt Signals n, w .1) (
-      record {
-        outs = n .outs;
-        head = n .head;
-        tail = more (n .tail);
-        micro = n .micro;
-        left = n .left;
-        taken = n .taken;
-        entered = n .entered;
-        stop = n .stop;
-      },
-      set (w .1) (n .tail % 32) k,
-    )
+    cond (leb (headOf n + 32) (tailOf n))
+    (stopAt Signals n, w .1)
+    (further 4294967296 n, set (w .1) (tailOf n % 32) (k % 256))
 
 abbrev pub onOuts : (Progress × List ℕ → Progress × List ℕ) → Work → Work
 onOuts f w = let r = f (w .n, w .outs) in work (r .0) (w .vars) (r .1) (w .queue)
@@ -119,7 +119,7 @@ doItem room (Log a b) w = onOuts (doEmit room a (getD (w .vars) b 0)) w
 -- items in order, up to a stop
 unfoldable pub doItems : ℕ → List Item → Work → Work
 doItems room [] w = w
-doItems room (x ∷ xs) w = cond (stopped? (w .n .stop)) w (doItems room xs (doItem room x w))
+doItems room (x ∷ xs) w = cond (stopped? (w .n)) w (doItems room xs (doItem room x w))
 
 -- the items whose words begin at `at`, one after the other
 unfoldable pub itemsFrom : List ℕ → ℕ → ℕ → List Item
@@ -137,37 +137,18 @@ pub record ItemsIn (t : List ℕ) (base at : ℕ) : Type 0 where
   pub items-in : getD t base 0 + 3 * (getD t at 0 + getD t (at + 1) 0) ≤ length t
 
 -- ---- steps
+-- one step of a kind
+abbrev pub one : Tag → ℕ
+one leave = 1048576
+one take = 1099511627776
+one enter = 1
+
+-- so much more of what `counts` counts
+abbrev pub more : ℕ → Progress → Progress
+more x n = record { counts = plus (n .counts) x; rest = n .rest }
+
 abbrev pub counted : Tag → Progress → Progress
-counted leave n = record {
-  outs = n .outs;
-  head = n .head;
-  tail = n .tail;
-  micro = n .micro;
-  left = more (n .left);
-  taken = n .taken;
-  entered = n .entered;
-  stop = n .stop;
-}
-counted take n = record {
-  outs = n .outs;
-  head = n .head;
-  tail = n .tail;
-  micro = n .micro;
-  left = n .left;
-  taken = more (n .taken);
-  entered = n .entered;
-  stop = n .stop;
-}
-counted enter n = record {
-  outs = n .outs;
-  head = n .head;
-  tail = n .tail;
-  micro = n .micro;
-  left = n .left;
-  taken = n .taken;
-  entered = more (n .entered);
-  stop = n .stop;
-}
+counted g n = more (one g) n
 
 -- The work, and the state words that are to be current when the microstep ends.
 pub record Going : Type 0 where
@@ -189,39 +170,21 @@ doSteps room (x ∷ xs) g = doSteps room xs (doStep room x g)
 
 -- ---- a macrostep
 abbrev pub microDone : Progress → Progress
-microDone n = record {
-  outs = n .outs;
-  head = n .head;
-  tail = n .tail;
-  micro = more (n .micro);
-  left = n .left;
-  taken = n .taken;
-  entered = n .entered;
-  stop = n .stop;
-}
+microDone n = further 281474976710656 n
 
 abbrev pub popped : Progress → Progress
-popped n = record {
-  outs = n .outs;
-  head = more (n .head);
-  tail = n .tail;
-  micro = n .micro;
-  left = n .left;
-  taken = n .taken;
-  entered = n .entered;
-  stop = n .stop;
-}
+popped n = further 65536 n
 
 abbrev pub onN : (Progress → Progress) → Going → Going
 onN f g = record { does = work (f (g .does .n)) (g .does .vars) (g .does .outs) (g .does .queue); words = g .words }
 
 -- nothing is left to do: a stop, or no signal waits
 unfoldable pub ended? : Progress → Bool
-ended? n = stopped? (n .stop) || eqb (n .head) (n .tail)
+ended? n = stopped? n || eqb (headOf n) (tailOf n)
 
 unfoldable pub turns : ℕ → ℕ → ℕ → Machine → ℕ → Going → Going
 turns zero events room m e g = onN (stopAt Microsteps) g
 turns (suc f) events room m e g =
     let h = onN microDone (doSteps room (m e (g .words) (g .does .vars)) g) in
     cond (ended? (h .does .n)) h
-    (turns f events room m (events + getD (h .does .queue) (h .does .n .head % 32) 0) (onN popped h))
+    (turns f events room m (events + getD (h .does .queue) (headOf (h .does .n) % 32) 0) (onN popped h))

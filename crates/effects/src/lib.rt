@@ -2,9 +2,9 @@
 // knows items, and neither charts nor flat tables. specs/Run.antt says what it means, specs/Work.antt how the code goes.
 ghost use mathlib.Core.Path.{_≡_};
 ghost use Prim.Native.Nat.{_+_, _*_, _%_, _<_, _≤_};
-ghost use lib.ListN.{length, getD};
+ghost use lib.ListN.{length, getD, set};
 ghost use Rattle.effects.specs.Run.{leave, take, enter};
-ghost use Rattle.effects.specs.Work.{more, work, stopped?, stopAt, doEmit, doRaise, doItem, doItems, itemsFrom, spanItems, ItemsIn, counted, microDone, popped, ended?, fresh, refusalOf};
+ghost use Rattle.effects.specs.Work.{work, takenOf, leftOf, enteredOf, microOf, tailOf, headOf, outsOf, stopped?, bitsOf, stopAt, further, more, doEmit, doRaise, doItem, doItems, itemsFrom, spanItems, ItemsIn, counted, microDone, popped, ended?, fresh, refusalOf};
 use table::Item;
 use table::Refusal;
 use table::Signal;
@@ -12,29 +12,122 @@ use table::Trigger;
 
 // Why a macrostep stops before its end.
 pub enum Stop {
-    Fine,
     Signals,
     Outputs,
     Microsteps,
 }
 
-// How far a macrostep is: outputs given, signals taken (head) and raised (tail), and what is reported.
+// How far a macrostep is, in two numbers, so that it takes little of the stack; how they are made up is known here alone.
+// specs/Work.antt says which bits count what: `counts` has the transitions taken, the states left and the states entered, `rest` why it
+// has stopped, the microsteps, the signals raised (tail) and taken (head), and the outputs. No count of a macrostep reaches the next.
 pub struct Progress {
-    pub outs: u32,
-    pub head: u32,
-    pub tail: u32,
-    pub micro: u32,
-    pub left: u32,
-    pub taken: u32,
-    pub entered: u32,
-    pub stop: Stop,
+    counts: u64,
+    rest: u64,
 }
 
-// One more, in 32 bits. No count of a macrostep comes near the end.
-fn one_more(x: u32) -> u32
-    ensures { λ r. ⌜ r ≡ more x ⌝ }
+// One more of what is counted.
+const ONE_TAKEN: u64 = 1099511627776;
+
+const ONE_LEFT: u64 = 1048576;
+
+const ONE_ENTERED: u64 = 1;
+
+const ONE_MICROSTEP: u64 = 281474976710656;
+
+const ONE_RAISED: u64 = 4294967296;
+
+const ONE_POPPED: u64 = 65536;
+
+const ONE_OUTPUT: u64 = 1;
+
+// The bits of a stop.
+fn bits_of(stop: Stop) -> u64
+    ensures { λ r. ⌜ r ≡ bitsOf stop ⌝ }
 {
-    ((x as u64 + 1) % 4294967296) as u32
+    match stop {
+        Stop::Signals => 4611686018427387904,
+        Stop::Outputs => 9223372036854775808,
+        Stop::Microsteps => 13835058055282163712,
+    }
+}
+
+// The transitions taken, or the rules fired.
+pub fn taken_of(n: Progress) -> u32
+    ensures { λ r. ⌜ r ≡ takenOf n ⌝ }
+{
+    (n.counts / ONE_TAKEN) as u32
+}
+
+// The states left.
+pub fn left_of(n: Progress) -> u32
+    ensures { λ r. ⌜ r ≡ leftOf n ⌝ }
+{
+    (n.counts / ONE_LEFT % 1048576) as u32
+}
+
+// The states entered.
+pub fn entered_of(n: Progress) -> u32
+    ensures { λ r. ⌜ r ≡ enteredOf n ⌝ }
+{
+    (n.counts % 1048576) as u32
+}
+
+// The microsteps.
+pub fn micro_of(n: Progress) -> u32
+    ensures { λ r. ⌜ r ≡ microOf n ⌝ }
+{
+    (n.rest / ONE_MICROSTEP % 16384) as u32
+}
+
+// The signals raised.
+fn tail_of(n: Progress) -> u32
+    ensures is { λ r. ⌜ r ≡ tailOf n ⌝ }
+    ensures small { λ r. ⌜ r < 65536 ⌝ }
+{
+    (n.rest / ONE_RAISED % 65536) as u32
+}
+
+// The signals taken.
+fn head_of(n: Progress) -> u32
+    ensures is { λ r. ⌜ r ≡ headOf n ⌝ }
+    ensures small { λ r. ⌜ r < 65536 ⌝ }
+{
+    (n.rest / ONE_POPPED % 65536) as u32
+}
+
+// The outputs.
+pub fn outs_of(n: Progress) -> u32
+    ensures is { λ r. ⌜ r ≡ outsOf n ⌝ }
+    ensures small { λ r. ⌜ r < 65536 ⌝ }
+{
+    (n.rest % 65536) as u32
+}
+
+// Whether the macrostep has stopped.
+pub fn is_stopped(n: Progress) -> bool
+    ensures { λ r. ⌜ r ≡ stopped? n ⌝ }
+{
+    4611686018427387904 <= n.rest
+}
+
+// So much more of what `rest` counts.
+fn advanced(n: Progress, x: u64) -> Progress
+    ensures { λ r. ⌜ r ≡ further x n ⌝ }
+{
+    Progress {
+        counts: n.counts,
+        rest: std::num::wrapping_add_u64(n.rest, x),
+    }
+}
+
+// So much more of what `counts` counts.
+fn grown(n: Progress, x: u64) -> Progress
+    ensures { λ r. ⌜ r ≡ more x n ⌝ }
+{
+    Progress {
+        counts: std::num::wrapping_add_u64(n.counts, x),
+        rest: n.rest,
+    }
 }
 
 // A count or a trigger as an index.
@@ -50,14 +143,27 @@ pub fn stop_at(stop: Stop, n: Progress) -> Progress
     ensures { λ r. ⌜ r ≡ stopAt stop n ⌝ }
 {
     Progress {
-        outs: n.outs,
-        head: n.head,
-        tail: n.tail,
-        micro: n.micro,
-        left: n.left,
-        taken: n.taken,
-        entered: n.entered,
-        stop: stop,
+        counts: n.counts,
+        rest: n.rest | bits_of(stop),
+    }
+}
+
+// Byte i of the queue, and 0 past its end.
+fn byte(queue: &[u8], i: usize) -> u8
+    ensures { λ r. ⌜ r ≡ getD (now (queue .entry)) i 0 ⌝ }
+{
+    if i < queue.len() {
+        return queue[i];
+    }
+    0
+}
+
+// Byte i of the queue becomes v; past its end nothing changes.
+fn put_byte(queue: &mut [u8], i: usize, v: u8)
+    ensures { λ r. ⌜ now (queue .exit) ≡ set (now (queue .entry)) i v ⌝ }
+{
+    if i < queue.len() {
+        queue[i] = v;
     }
 }
 
@@ -65,28 +171,25 @@ pub fn stop_at(stop: Stop, n: Progress) -> Progress
 fn emit(a: u16, v: u16, room: usize, outs: &mut [u16], n: Progress) -> Progress
     ensures { λ r. ⌜ (r, now (outs .exit)) ≡ doEmit room a v (n, now (outs .entry)) ⌝ }
 {
-    let k = wide(n.outs);
+    let k = wide(outs_of(n));
     if room <= k {
         return stop_at(Stop::Outputs, n);
     }
     words::put(outs, 2 * k, a);
     words::put(outs, 2 * k + 1, v);
-    let mut m = n;
-    m.outs = one_more(n.outs);
-    m
+    advanced(n, ONE_OUTPUT)
 }
 
 // One signal more to wait, of at most 32.
-fn raise(k: Signal, queue: &mut [u16], n: Progress) -> Progress
+fn raise(k: Signal, queue: &mut [u8], n: Progress) -> Progress
     ensures { λ r. ⌜ (r, now (queue .exit)) ≡ doRaise (k .0) (n, now (queue .entry)) ⌝ }
 {
-    if wide(n.head) + 32 <= wide(n.tail) {
+    let tail = tail_of(n);
+    if head_of(n) + 32 <= tail {
         return stop_at(Stop::Signals, n);
     }
-    words::put(queue, wide(n.tail) % 32, k.0);
-    let mut m = n;
-    m.tail = one_more(n.tail);
-    m
+    put_byte(queue, wide(tail) % 32, (k.0 % 256) as u8);
+    advanced(n, ONE_RAISED)
 }
 
 // What one item does: one case decides.
@@ -95,7 +198,7 @@ fn do_item(
     room: usize,
     vars: &mut [u16],
     outs: &mut [u16],
-    queue: &mut [u16],
+    queue: &mut [u8],
     n: Progress,
 ) -> Progress
     ensures { λ r. ⌜ work r (now (vars .exit)) (now (outs .exit)) (now (queue .exit)) ≡ doItem room item (work n (now (vars .entry)) (now (outs .entry)) (now (queue .entry))) ⌝ }
@@ -126,18 +229,6 @@ fn do_item(
     }
 }
 
-// Whether the macrostep has stopped.
-pub fn has_stopped(stop: Stop) -> bool
-    ensures { λ r. ⌜ r ≡ stopped? stop ⌝ }
-{
-    match stop {
-        Stop::Fine => false,
-        Stop::Signals => true,
-        Stop::Outputs => true,
-        Stop::Microsteps => true,
-    }
-}
-
 // The `count` items whose words begin at `first`, in order, up to a stop.
 pub fn run_items(
     t: &[u16],
@@ -146,7 +237,7 @@ pub fn run_items(
     room: usize,
     vars: &mut [u16],
     outs: &mut [u16],
-    queue: &mut [u16],
+    queue: &mut [u8],
     n: Progress,
 ) -> Progress
     requires { ⌜ first + 3 * count ≤ length (now t) ⌝ }
@@ -156,8 +247,7 @@ pub fn run_items(
     let mut at = first;
     let mut left = count;
     while 0 < left {
-        let stop = m.stop;
-        if has_stopped(stop) {
+        if is_stopped(m) {
             return m;
         }
         m = do_item(table::item_at(t, at), room, vars, outs, queue, m);
@@ -175,7 +265,7 @@ pub fn run_span(
     room: usize,
     vars: &mut [u16],
     outs: &mut [u16],
-    queue: &mut [u16],
+    queue: &mut [u8],
     n: Progress,
 ) -> Progress
     requires { ⌜ ItemsIn (now t) base at ⌝ }
@@ -190,89 +280,71 @@ pub fn run_span(
 pub fn count_leave(n: Progress) -> Progress
     ensures { λ r. ⌜ r ≡ counted leave n ⌝ }
 {
-    let mut m = n;
-    m.left = one_more(n.left);
-    m
+    grown(n, ONE_LEFT)
 }
 
 // A transition is taken, or a flat rule fires.
 pub fn count_take(n: Progress) -> Progress
     ensures { λ r. ⌜ r ≡ counted take n ⌝ }
 {
-    let mut m = n;
-    m.taken = one_more(n.taken);
-    m
+    grown(n, ONE_TAKEN)
 }
 
 // A state is entered.
 pub fn count_enter(n: Progress) -> Progress
     ensures { λ r. ⌜ r ≡ counted enter n ⌝ }
 {
-    let mut m = n;
-    m.entered = one_more(n.entered);
-    m
+    grown(n, ONE_ENTERED)
 }
 
 // A microstep is done.
 pub fn count_micro(n: Progress) -> Progress
     ensures { λ r. ⌜ r ≡ microDone n ⌝ }
 {
-    let mut m = n;
-    m.micro = one_more(n.micro);
-    m
+    advanced(n, ONE_MICROSTEP)
 }
 
 // The oldest signal is taken off the queue.
 pub fn pop(n: Progress) -> Progress
     ensures { λ r. ⌜ r ≡ popped n ⌝ }
 {
-    let mut m = n;
-    m.head = one_more(n.head);
-    m
+    advanced(n, ONE_POPPED)
 }
 
 // Whether nothing is left to do: a stop, or no signal waits.
 pub fn has_ended(n: Progress) -> bool
     ensures { λ r. ⌜ r ≡ ended? n ⌝ }
 {
-    let stop = n.stop;
-    if has_stopped(stop) {
+    if is_stopped(n) {
         return true;
     }
-    n.head == n.tail
+    head_of(n) == tail_of(n)
 }
 
 // The oldest signal that waits, as a trigger.
-pub fn oldest(queue: &[u16], events: u16, n: Progress) -> Trigger
-    ensures { λ r. ⌜ r .0 ≡ events + getD (now (queue .entry)) (n .head % 32) 0 ⌝ }
+pub fn oldest(queue: &[u8], events: u16, n: Progress) -> Trigger
+    ensures { λ r. ⌜ r .0 ≡ events + getD (now (queue .entry)) (headOf n % 32) 0 ⌝ }
 {
-    table::trigger_of(Signal(words::word(queue, wide(n.head) % 32)), events)
+    let signal = byte(queue, wide(head_of(n)) % 32);
+    table::trigger_of(Signal(signal as u16), events)
 }
 
 // A macrostep that has not begun.
 pub fn start() -> Progress
     ensures { λ r. ⌜ r ≡ fresh ⌝ }
 {
-    Progress {
-        outs: 0,
-        head: 0,
-        tail: 0,
-        micro: 0,
-        left: 0,
-        taken: 0,
-        entered: 0,
-        stop: Stop::Fine,
-    }
+    Progress { counts: 0, rest: 0 }
 }
 
-// The refusal that a stop stands for.
-pub fn refusal_of(stop: Stop) -> Refusal
-    ensures { λ r. ⌜ r ≡ refusalOf stop ⌝ }
+// The refusal that a macrostep that has stopped gives.
+pub fn refusal_of(n: Progress) -> Refusal
+    ensures { λ r. ⌜ r ≡ refusalOf n ⌝ }
 {
-    match stop {
-        Stop::Fine => Refusal::Signals,
-        Stop::Signals => Refusal::Signals,
-        Stop::Outputs => Refusal::Outputs,
-        Stop::Microsteps => Refusal::Microsteps,
+    if 13835058055282163712 <= n.rest {
+        return Refusal::Microsteps;
     }
+    if 9223372036854775808 <= n.rest {
+        return Refusal::Outputs;
+    }
+    Refusal::Signals
 }

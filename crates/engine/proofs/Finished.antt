@@ -11,9 +11,8 @@ use Rattle.effects.specs.Run.{Result, St, macrostep}
 use Rattle.effects.specs.Work.{stopped?, refusalOf}
 use Rattle.effects.specs.Lent.{roomFor}
 use Rattle.macrostep.specs.Ends.{Ends, ended, halted}
-use Rattle.macrostep.specs.declared.Form.the-variants.{Chart}
 use Rattle.chart.specs.View.{view}
-use Rattle.meaning.specs.Steps.{chartMachine}
+use Rattle.meaning.specs.Steps.{chartMachine, rest}
 use Rattle.meaning.specs.State.{orStates}
 use Rattle.meaning.specs.Calls.{finished, ranOn}
 use Rattle.engine.specs.Told.{ranTold, countsOf}
@@ -21,28 +20,30 @@ use Rattle.engine.specs.declared.Counts.{Counts}
 use Rattle.engine.specs.declared.ChartRun.the-variants.{Done, Refused}
 
 module _ (t state outputs : List ℕ) (n : Progress) (state′ outputs′ : List ℕ) where
-  stopped-told : {meant : Result St} → Ends Chart t state outputs n state′ outputs′ meant → stopped? (n .stop) ≡ true
-      → ranTold (Refused (refusalOf (n .stop))) state′ outputs′ ≡ finished (view t) meant state outputs
+  stopped-told : {meant : Result St} → Ends (rest (view t)) state outputs n state′ outputs′ meant → stopped? n ≡ true
+      → ranTold (Refused (refusalOf n)) state′ outputs′ ≡ finished (view t) meant state outputs
   stopped-told (halted h) e = rw (h .why, h .state-stays, h .outs-stay) refl
-  stopped-told (ended d) e = clash (stopped? (n .stop)) e (d .goes-on)
+  stopped-told (ended d) e = clash (stopped? n) e (d .goes-on)
 
-  ended-told : {meant : Result St} → Ends Chart t state outputs n state′ outputs′ meant → stopped? (n .stop) ≡ false
+  ended-told : {meant : Result St} → Ends (rest (view t)) state outputs n state′ outputs′ meant → stopped? n ≡ false
       → ranTold (Done (countsOf n)) state′ outputs′ ≡ finished (view t) meant state outputs
   ended-told (ended d) e = rw (d .micro, d .taken, d .left, d .entered, d .given, d .state-is, d .outs-are) refl
-  ended-told (halted h) e = clash (stopped? (n .stop)) (h .halts) e
+  ended-told (halted h) e = clash (stopped? n) (h .halts) e
 
   -- The macrostep is that of the state.
   module _ (event k : ℕ) (words-are : k ≡ orStates (view t))
-      (ends : Ends Chart t state outputs n state′ outputs′ (macrostep (view t .events) (roomFor (length outputs)) (chartMachine (view t)) event (take k state) (drop k state))) where
-    ran : finished (view t) (macrostep (view t .events) (roomFor (length outputs)) (chartMachine (view t)) event (take k state) (drop k state)) state outputs
+      (ends : Ends (rest (view t)) state outputs n state′ outputs′
+      (macrostep (view t .events) (roomFor (length outputs)) (chartMachine (view t)) event (take k state) (drop k state))) where
+    ran : finished (view t)
+        (macrostep (view t .events) (roomFor (length outputs)) (chartMachine (view t)) event (take k state) (drop k state)) state outputs
         ≡ ranOn (view t) state event outputs
     unfolding ranOn
     ran = rw words-are refl
 
-    pub run-stopped : stopped? (n .stop) ≡ true → (r : Refusal) → r ≡ refusalOf (n .stop)
+    pub run-stopped : stopped? n ≡ true → (r : Refusal) → r ≡ refusalOf n
         → ranTold (Refused r) state′ outputs′ ≡ ranOn (view t) state event outputs
     run-stopped h r is = ap (λ (x : Refusal). ranTold (Refused x) state′ outputs′) is ∙ stopped-told ends h ∙ ran
 
-    pub run-done : stopped? (n .stop) ≡ false → (counts : Counts) → counts ≡ countsOf n
+    pub run-done : stopped? n ≡ false → (counts : Counts) → counts ≡ countsOf n
         → ranTold (Done counts) state′ outputs′ ≡ ranOn (view t) state event outputs
     run-done h counts is = ap (λ (m : Counts). ranTold (Done m) state′ outputs′) is ∙ ended-told ends h ∙ ran

@@ -3,6 +3,7 @@ use Prim.Native.Nat.{ℕ}
 use mathlib.Core.List.{List}
 use Rattle.table.specs.Answers.{refusalTold}
 use Rattle.effects.specs.declared.Progress.{Progress}
+use Rattle.effects.specs.Work.{takenOf, leftOf, enteredOf, microOf, outsOf}
 use Rattle.meaning.specs.Calls.{Ran, refusedRun}
 use Rattle.engine.specs.declared.Counts.{Counts}
 use Rattle.engine.specs.declared.ChartRun.{ChartRun}
@@ -24,9 +25,9 @@ ranTold (Refused r) state outputs = refusedRun (refusalTold r) state outputs
 -- What is reported of a finished macrostep.
 abbrev pub countsOf : Progress → Counts
 countsOf n = record {
-  microsteps = n .micro;
-  taken = n .taken;
-  left = n .left;
-  entered = n .entered;
-  outputs = n .outs;
+  microsteps = microOf n;
+  taken = takenOf n;
+  left = leftOf n;
+  entered = enteredOf n;
+  outputs = outsOf n;
 }

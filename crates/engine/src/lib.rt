@@ -1,19 +1,15 @@
 // The chart engine: the calls that start and run a chart. It takes any table, state, event and room.
 ghost use mathlib.Core.Path.{_≡_};
-ghost use Prim.Native.Nat.{_≤_};
-ghost use lib.ListN.{length};
 ghost use Rattle.table.specs.Answers.{told};
 ghost use Rattle.effects.specs.Lent.{startTold};
 ghost use Rattle.chart.specs.View.{view};
 ghost use Rattle.chart_rules.specs.Rules.{ChartRules};
 ghost use Rattle.chart_check.specs.Answer.{chartAnswer};
-ghost use Rattle.meaning.specs.State.{orStates, stateLength};
 ghost use Rattle.meaning.specs.Calls.{startedOn, startChart, ranOn, ranAccepted, runChart};
 ghost use Rattle.states.specs.Cells.{cells};
-ghost use Rattle.active.specs.Ors.{Ors};
+ghost use Rattle.chart_macrostep.specs.Tried.{Lent};
 ghost use Rattle.engine.specs.Told.{ranTold, countsOf};
 use effects::Progress;
-use macrostep::Form;
 use states::StateSet;
 use table::Refusal;
 use table::Trigger;
@@ -39,31 +35,29 @@ fn counts_of(n: Progress) -> Counts
     ensures { λ r. ⌜ r ≡ countsOf n ⌝ }
 {
     Counts {
-        microsteps: n.micro,
-        taken: n.taken,
-        left: n.left,
-        entered: n.entered,
-        outputs: n.outs,
+        microsteps: effects::micro_of(n),
+        taken: effects::taken_of(n),
+        left: effects::left_of(n),
+        entered: effects::entered_of(n),
+        outputs: effects::outs_of(n),
     }
 }
 
-// One event on a state of an accepted chart. `ors` are its or-states, `own` has space for a word of each of them.
+// One event on a state of an accepted chart. `ors` are its or-states, `words` is their number.
 fn run_state(
     t: &[u16],
     ors: StateSet,
-    own: &mut [u16],
+    words: usize,
     state: &mut [u16],
     event: Trigger,
     outputs: &mut [u16],
 ) -> ChartRun
-    requires { ⌜ ChartRules (now t) × Ors (view (now t)) (cells ors) × (orStates (view (now t)) ≡ length (now own)) × (length (now own) ≤ 24) × (length (now state) ≡ stateLength (view (now t))) ⌝ }
+    requires { ⌜ Lent (now t) (cells ors) words (now state) ⌝ }
     ensures { λ r. ⌜ ranTold r (now (state .exit)) (now (outputs .exit)) ≡ ranOn (view (now (t .entry))) (now (state .entry)) (event .0) (now (outputs .entry)) ⌝ }
 {
-    let words = own.len();
-    let n = macrostep::run(Form::Chart, ors, t, own, words, state, event, outputs);
-    let stop = n.stop;
-    if effects::has_stopped(stop) {
-        return ChartRun::Refused(effects::refusal_of(stop));
+    let n = chart_macrostep::run(t, ors, words, state, event, outputs);
+    if effects::is_stopped(n) {
+        return ChartRun::Refused(effects::refusal_of(n));
     }
     ChartRun::Done(counts_of(n))
 }
@@ -81,8 +75,7 @@ fn run_accepted(t: &[u16], state: &mut [u16], event: u32, outputs: &mut [u16]) -
     if chart::head(t, chart::EVENTS) <= effects::wide(event) {
         return ChartRun::Refused(Refusal::NoEvent);
     }
-    let mut own = [0u16; 24];
-    run_state(t, ors, &mut own[..words], state, Trigger(event), outputs)
+    run_state(t, ors, words, state, Trigger(event), outputs)
 }
 
 // The check's answer to a chart, in a call of its own: what it takes on the stack is free again for the run.

@@ -11,7 +11,6 @@ use Rattle.effects.specs.Run.{Result, St, macrostep}
 use Rattle.effects.specs.Work.{stopped?, refusalOf}
 use Rattle.effects.specs.Lent.{roomFor}
 use Rattle.macrostep.specs.Ends.{Ends, ended, halted}
-use Rattle.macrostep.specs.declared.Form.the-variants.{Flat}
 use Rattle.flat.specs.View.{flatView}
 use Rattle.flat_meaning.specs.Steps.{flatMachine}
 use Rattle.flat_meaning.specs.Calls.{flatFinished, flatRanOn}
@@ -19,29 +18,31 @@ use Rattle.flat_engine.specs.Told.{flatRanTold, flatCountsOf}
 use Rattle.flat_engine.specs.declared.FlatCounts.{FlatCounts}
 use Rattle.flat_engine.specs.declared.FlatRun.the-variants.{Done, Refused}
 
-module _ (t state outputs : List ℕ) (n : Progress) (state′ outputs′ : List ℕ) where
-  stopped-told : {meant : Result St} → Ends Flat t state outputs n state′ outputs′ meant → stopped? (n .stop) ≡ true
-      → flatRanTold (Refused (refusalOf (n .stop))) state′ outputs′ ≡ flatFinished meant state outputs
+module _ (state outputs : List ℕ) (n : Progress) (state′ outputs′ : List ℕ) where
+  stopped-told : {meant : Result St} → Ends (λ w. w) state outputs n state′ outputs′ meant → stopped? n ≡ true
+      → flatRanTold (Refused (refusalOf n)) state′ outputs′ ≡ flatFinished meant state outputs
   stopped-told (halted h) e = rw (h .why, h .state-stays, h .outs-stay) refl
-  stopped-told (ended d) e = clash (stopped? (n .stop)) e (d .goes-on)
+  stopped-told (ended d) e = clash (stopped? n) e (d .goes-on)
 
-  ended-told : {meant : Result St} → Ends Flat t state outputs n state′ outputs′ meant → stopped? (n .stop) ≡ false
+  ended-told : {meant : Result St} → Ends (λ w. w) state outputs n state′ outputs′ meant → stopped? n ≡ false
       → flatRanTold (Done (flatCountsOf n)) state′ outputs′ ≡ flatFinished meant state outputs
   ended-told (ended d) e = rw (d .micro, d .taken, d .given, d .state-is, d .outs-are) refl
-  ended-told (halted h) e = clash (stopped? (n .stop)) (h .halts) e
+  ended-told (halted h) e = clash (stopped? n) (h .halts) e
 
   -- The macrostep is that of the state.
-  module _ (event k : ℕ) (words-are : k ≡ flatView t .machines)
-      (ends : Ends Flat t state outputs n state′ outputs′ (macrostep (flatView t .events) (roomFor (length outputs)) (flatMachine (flatView t)) event (take k state) (drop k state))) where
-    ran : flatFinished (macrostep (flatView t .events) (roomFor (length outputs)) (flatMachine (flatView t)) event (take k state) (drop k state)) state outputs
-        ≡ flatRanOn (flatView t) state event outputs
+  module _ (t : List ℕ) (event k : ℕ) (words-are : k ≡ flatView t .machines)
+      (ends : Ends (λ w. w) state outputs n state′ outputs′
+      (macrostep (flatView t .events) (roomFor (length outputs)) (flatMachine (flatView t)) event (take k state) (drop k state))) where
+    ran : flatFinished
+        (macrostep (flatView t .events) (roomFor (length outputs)) (flatMachine (flatView t)) event (take k state) (drop k state))
+        state outputs ≡ flatRanOn (flatView t) state event outputs
     unfolding flatRanOn
     ran = rw words-are refl
 
-    pub run-stopped : stopped? (n .stop) ≡ true → (r : Refusal) → r ≡ refusalOf (n .stop)
+    pub run-stopped : stopped? n ≡ true → (r : Refusal) → r ≡ refusalOf n
         → flatRanTold (Refused r) state′ outputs′ ≡ flatRanOn (flatView t) state event outputs
     run-stopped h r is = ap (λ (x : Refusal). flatRanTold (Refused x) state′ outputs′) is ∙ stopped-told ends h ∙ ran
 
-    pub run-done : stopped? (n .stop) ≡ false → (counts : FlatCounts) → counts ≡ flatCountsOf n
+    pub run-done : stopped? n ≡ false → (counts : FlatCounts) → counts ≡ flatCountsOf n
         → flatRanTold (Done counts) state′ outputs′ ≡ flatRanOn (flatView t) state event outputs
     run-done h counts is = ap (λ (m : FlatCounts). flatRanTold (Done m) state′ outputs′) is ∙ ended-told ends h ∙ ran

@@ -2,6 +2,7 @@
 use Prim.Native.Nat.{ℕ}
 use mathlib.Core.List.{List}
 use Rattle.table.specs.Answers.{refusalTold}
+use Rattle.effects.specs.Work.{microOf, takenOf, outsOf}
 use Rattle.effects.specs.declared.Progress.{Progress}
 use Rattle.flat_meaning.specs.Calls.{FlatRan, refusedFlatRun}
 use Rattle.flat_engine.specs.declared.FlatCounts.{FlatCounts}
@@ -21,4 +22,4 @@ flatRanTold (Refused r) state outputs = refusedFlatRun (refusalTold r) state out
 
 -- What is reported of a finished macrostep.
 abbrev pub flatCountsOf : Progress → FlatCounts
-flatCountsOf n = record { microsteps = n .micro; fired = n .taken; outputs = n .outs }
+flatCountsOf n = record { microsteps = microOf n; fired = takenOf n; outputs = outsOf n }

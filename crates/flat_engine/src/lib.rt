@@ -13,7 +13,6 @@ ghost use Rattle.flat_meaning.specs.State.{goodFlatWord?, flatLength, flatState
 ghost use Rattle.flat_meaning.specs.Calls.{flatStartedOn, startFlat, flatRanOn, flatRanAccepted, runFlat};
 ghost use Rattle.flat_engine.specs.Told.{flatRanTold, flatCountsOf};
 use effects::Progress;
-use macrostep::Form;
 use table::Refusal;
 use table::Trigger;
 use table::Verdict;
@@ -64,9 +63,9 @@ fn counts_of(n: Progress) -> FlatCounts
     ensures { λ r. ⌜ r ≡ flatCountsOf n ⌝ }
 {
     FlatCounts {
-        microsteps: n.micro,
-        fired: n.taken,
-        outputs: n.outs,
+        microsteps: effects::micro_of(n),
+        fired: effects::taken_of(n),
+        outputs: effects::outs_of(n),
     }
 }
 
@@ -82,11 +81,9 @@ fn run_state(
     ensures { λ r. ⌜ flatRanTold r (now (state .exit)) (now (outputs .exit)) ≡ flatRanOn (flatView (now (t .entry))) (now (state .entry)) (event .0) (now (outputs .entry)) ⌝ }
 {
     let machines = flat::head(t, flat::MACHINES);
-    let none = states::none();
-    let n = macrostep::run(Form::Flat, none, t, marks, machines, state, event, outputs);
-    let stop = n.stop;
-    if effects::has_stopped(stop) {
-        return FlatRun::Refused(effects::refusal_of(stop));
+    let n = flat_macrostep::run(t, marks, machines, state, event, outputs);
+    if effects::is_stopped(n) {
+        return FlatRun::Refused(effects::refusal_of(n));
     }
     FlatRun::Done(counts_of(n))
 }

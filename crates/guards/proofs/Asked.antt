@@ -4,14 +4,13 @@ use mathlib.Core.Path.{_≡_, refl, _∙_}
 use mathlib.Core.Bool.{true}
 use mathlib.Core.List.{List}
 use native.Mathlib.Omega.{arith}
-use lib.Dec.{eqb}
 use lib.ListN.{length}
-use Rattle.words.proofs.Tests.{by-bool, last-or, eqb-yes, eqb-no}
+use Rattle.words.proofs.Tests.{last-or, eqb-yes, eqb-no}
 use Rattle.flat.specs.View.{Flat}
 use Rattle.flat.specs.declared.FlatLiteral.{FlatLiteral}
 use Rattle.flat.specs.declared.FlatLiteral.the-variants.{Current, NotCurrent, AtLeast, Less, Holds, Fails}
 use Rattle.marks.specs.Bits.{marked, withMark}
-use Rattle.marks.proofs.Marks.{marked-with}
+use Rattle.marks.proofs.Marks.{marked-with, with-still}
 use Rattle.guards.specs.Parts.{asking, AsksFor}
 use Rattle.guards.proofs.Spans.{literal}
 
@@ -27,7 +26,7 @@ none marks = record { asked = λ a e. absurd e; more = λ a e. e; others = λ a 
 one : (k : ℕ) (marks : List ℕ) → k < 16 * length marks → Grows (λ a. a ≡ k) marks (withMark k marks)
 one k marks l = record {
   asked = λ a e. marked-with k marks l a ∙ rw (eqb-yes e) refl;
-  more = λ a e. marked-with k marks l a ∙ rw e (by-bool (eqb a k) (λ q. rw q refl) (λ q. rw q refl));
+  more = with-still k marks l;
   others = λ a n. marked-with k marks l a ∙ rw (eqb-no n) refl;
 }
 

@@ -1,7 +1,7 @@
 -- A macrostep that is tried with some words lent for its outputs and, where it gives more, gone through again with all of them
 -- lent, ends as is meant. Assumes nothing.
 use Prim.Native.Nat.{ℕ, zero, suc, _+_, _*_, _/_, _≤_, _<_}
-use mathlib.Core.Path.{_≡_, refl, sym, ap, ap₂, _∙_, subst}
+use mathlib.Core.Path.{_≡_, refl, sym, ap, ap₂, _∙_}
 use mathlib.Core.Bool.{true, false}
 use mathlib.Core.List.{List, [], _∷_, _++_}
 use native.Mathlib.Omega.{arith}
@@ -9,29 +9,17 @@ use lib.Dec.{ltb, leb, leb→le, nleb→lt}
 use lib.ListN.{length, take, drop, set, length-set, take-append-drop}
 use lib.Seq.{length-take-le, length-front, set-append-left, take-take, drop-at}
 use Rattle.words.proofs.Tests.{by-bool, clash, ltb-lt, ltb-ge}
-use Rattle.effects.specs.declared.Progress.{Progress}
-use Rattle.effects.specs.Run.{Result, ok, St, written, macrostep}
+use Rattle.effects.specs.Run.{Result, ok, St, written}
 use Rattle.effects.specs.Lent.{roomFor}
-use Rattle.effects.specs.Work.{Going, going, fresh, stopped?, turns}
-use Rattle.effects.proofs.Same.{Bounded, Done, Outcome, done, refused, same}
-use Rattle.states.specs.declared.StateSet.{StateSet}
-use Rattle.meaning.proofs.Small.{machine-small}
-use Rattle.flat_meaning.proofs.Small.{flat-machine-small}
-use Rattle.macrostep.specs.declared.Form.{Form}
-use Rattle.macrostep.specs.declared.Form.the-variants.{Chart, Flat}
-use Rattle.macrostep.specs.Forms.{machineOf, eventsOf, Ready}
-use Rattle.macrostep.specs.Ends.{told?, handed, Ends, ended, halted}
-
--- no microstep has more than 10,000 steps
-form-small : (form : Form) (t own : List ℕ) (ors : StateSet) → Ready t own ors form → Bounded 10000 (machineOf form t)
-form-small Chart t own ors r = machine-small (r .0)
-form-small Flat t own ors r = flat-machine-small (r .0)
+use Rattle.effects.specs.Work.{Going, outsOf, stopped?}
+use Rattle.effects.proofs.Same.{Outcome, done, refused}
+use Rattle.macrostep.specs.Ends.{told?, Ends, ended, halted}
 
 -- the room for outputs is at most 256 pairs, and the words lent hold it
-room-few : (l : ℕ) → roomFor l ≤ 256
+pub room-few : (l : ℕ) → roomFor l ≤ 256
 room-few l = by-bool (ltb 256 (l / 2)) (λ e. rw e (omega arith)) (λ e. rw e (ltb-ge 256 (l / 2) e))
 
-room-fits : (l : ℕ) → 2 * roomFor l ≤ l
+pub room-fits : (l : ℕ) → 2 * roomFor l ≤ l
 room-fits l =
     by-bool (ltb 256 (l / 2)) (λ e. rw e (omega (arith, ltb-lt 256 (l / 2) e))) (λ e. rw e (omega arith))
 
@@ -60,7 +48,7 @@ pub kept-enough : (first n : ℕ) (x : List ℕ) → n ≡ first → 0 + length 
 kept-enough first n x e = omega (arith, front-few first x)
 
 -- the first words, which were kept, are put back
-put-back : (o outs part kept loaded : List ℕ) (first k : ℕ) → k ≡ first → first ≤ length o → outs ≡ o
+pub put-back : (o outs part kept loaded : List ℕ) (first k : ℕ) → k ≡ first → first ≤ length o → outs ≡ o
     → length part ≡ length (take k outs) → kept ≡ take first o → loaded ≡ take (length (take first (part ++ drop k outs))) kept
     → loaded ++ drop first (part ++ drop k outs) ≡ o
 put-back o outs part kept loaded first k z fits same p keeps loads =
@@ -75,103 +63,67 @@ put-back o outs part kept loaded first k z fits same p keeps loads =
     drop-at part (drop k outs) first long ∙ ap₂ (λ (i : ℕ) (x : List ℕ). drop i x) z same in
     ap₂ (λ (x y : List ℕ). x ++ y) front behind ∙ take-append-drop first o
 
+-- It ends well.
+pub data Well : Result St → Type 0 where
+  well : {s : St} → Well (ok s)
+
 -- What is known before the macrostep is gone through with k of the words o lent: it is the first time, and `first` are lent, or it
--- has ended well, and all are.
-pub data Before (o : List ℕ) (first k : ℕ) : Result St → Type 0 where
-  untried : {meant : Result St} → k ≡ first → Before o first k meant
-  tried : {s : St} → k ≡ length o → Before o first k (ok s)
+-- ends well, and all are.
+pub data Before (o : List ℕ) (first k : ℕ) (meant : Result St) : Type 0 where
+  untried : k ≡ first → Before o first k meant
+  tried : k ≡ length o → Well meant → Before o first k meant
 
 -- the words lent are there
 pub before-fits : {o : List ℕ} {first k : ℕ} {meant : Result St} → first ≤ length o → Before o first k meant → k ≤ length o
 before-fits l (untried z) = omega arith
-before-fits l (tried z) = omega arith
+before-fits l (tried z w) = omega arith
 
-module _ (form : Form) (t state o : List ℕ) (room first k : ℕ) where
-  -- what has gone well, with the outputs written
-  well : {s : St} {g : Going} → Done room (take k o) s g → (outs : List ℕ) → outs ≡ written 0 (s .env .outs) o
-      → Ends form t state o (g .does .n) (handed form t (g .does .n) (g .words) (g .does .vars) state) outs (ok s)
-  unfolding handed
-  well {s} {g} d outs e = ended {s = s} (record {
-    goes-on = rw (d .fine) refl;
-    micro = d .micro;
-    left = d .left;
-    taken = d .taken;
-    entered = d .entered;
-    given = d .outs-count;
-    state-is = rw (d .fine, d .words, d .vars) refl;
-    outs-are = e;
-  })
+module _ (o : List ℕ) (room k : ℕ) where
+  -- what ends well is told with all words lent
+  pub whole-told : {meant : Result St} {g : Going} → 2 * room ≤ length o → k ≡ length o → Well meant → Outcome room (take k o) meant g
+      → told? (g .does .n) k ≡ true
+  unfolding told?
+  whole-told fits z well (done {s} {g} d) =
+      by-bool (leb (2 * outsOf (g .does .n)) k) (λ e. rw (d .fine, e) refl)
+      (λ e. absurd (omega (arith, nleb→lt (2 * outsOf (g .does .n)) k (rw e tt), d .outs-count, d .outs-few)))
 
+  -- what is not told and has not stopped ends well; it was the first time, and not all words were lent
+  pub goes-again : {first : ℕ} {meant : Result St} {g : Going} → 2 * room ≤ length o → Before o first k meant
+      → Outcome room (take k o) meant g → stopped? (g .does .n) ≡ false → told? (g .does .n) k ≡ false
+      → Well meant × (k ≡ first) × (k < length o)
+  unfolding told?
+  goes-again fits b (refused {r} {g} s) h q = clash (stopped? (g .does .n)) (s .halts) h
+  goes-again fits (tried z w) (done {s} {g} d) h q = clash (told? (g .does .n) k) (whole-told fits z w (done d)) q
+  goes-again fits (untried z) (done {s} {g} d) h q =
+      let more : leb (2 * outsOf (g .does .n)) k ≡ false = rw (d .fine) at q in
+      let over : k < 2 * outsOf (g .does .n) = nleb→lt (2 * outsOf (g .does .n)) k (rw more tt) in
+      (well, z, omega (arith, over, d .outs-count, d .outs-few))
+
+module _ (rest : List ℕ → List ℕ) (state o : List ℕ) (room k : ℕ) where
   -- all that it gave stands in the words lent
-  told-ends : {meant : Result St} {g : Going} → k ≤ length o → Outcome room (take k o) meant g → told? (g .does .n) k ≡ true
-      → Ends form t state o (g .does .n) (handed form t (g .does .n) (g .words) (g .does .vars) state) (g .does .outs ++ drop k o) meant
+  pub told-ends : {meant : Result St} {g : Going} → k ≤ length o → Outcome room (take k o) meant g → told? (g .does .n) k ≡ true
+      → Ends rest state o (g .does .n) (rest (g .words) ++ g .does .vars) (g .does .outs ++ drop k o) meant
   unfolding told?
   told-ends fits (done {s} {g} d) h =
-      let held : leb (2 * g .does .n .outs) k ≡ true = rw (d .fine) at h in
-      let few : 2 * g .does .n .outs ≤ k = leb→le (2 * g .does .n .outs) k (rw held tt) in
-      well d _
-      (ap (λ (x : List ℕ). x ++ drop k o) (d .outs)
-      ∙ written-front (s .env .outs) 0 (take k o) (drop k o) (omega (arith, few, d .outs-count, length-take-le k o fits))
-      ∙ ap (written 0 (s .env .outs)) (take-append-drop k o))
+      let held : leb (2 * outsOf (g .does .n)) k ≡ true = rw (d .fine) at h in
+      let few : 2 * outsOf (g .does .n) ≤ k = leb→le (2 * outsOf (g .does .n)) k (rw held tt) in
+      ended {s = s} (record {
+        goes-on = d .fine;
+        micro = d .micro;
+        left = d .left;
+        taken = d .taken;
+        entered = d .entered;
+        given = d .outs-count;
+        state-is = ap₂ (λ (x y : List ℕ). rest x ++ y) (d .words) (d .vars);
+        outs-are = ap (λ (x : List ℕ). x ++ drop k o) (d .outs)
+            ∙ written-front (s .env .outs) 0 (take k o) (drop k o) (omega (arith, few, d .outs-count, length-take-le k o fits))
+            ∙ ap (written 0 (s .env .outs)) (take-append-drop k o);
+      })
   told-ends fits (refused {r} {g} s) h = clash (told? (g .does .n) k) h (rw (s .halts) refl)
 
-  -- a time that stops is the first, and what is put back is as it was
-  stop-ends : {meant : Result St} {g : Going} → Before o first k meant → Outcome room (take k o) meant g
-      → stopped? (g .does .n .stop) ≡ true → (outs : List ℕ) → (k ≡ first → outs ≡ o)
-      → Ends form t state o (g .does .n) (handed form t (g .does .n) (g .words) (g .does .vars) state) outs meant
-  unfolding handed
+  -- what stops does not end well, and what is put back is as it was
+  pub stop-ends : {first : ℕ} {meant : Result St} {g : Going} → Before o first k meant → Outcome room (take k o) meant g
+      → stopped? (g .does .n) ≡ true → (outs : List ℕ) → (k ≡ first → outs ≡ o) → Ends rest state o (g .does .n) state outs meant
   stop-ends (untried z) (refused {r} {g} s) h outs back =
-      halted (record { halts = s .halts; why = s .why; state-stays = rw (s .halts) refl; outs-stay = back z })
-  stop-ends b (done {s} {g} d) h outs back = clash (stopped? (g .does .n .stop)) h (rw (d .fine) refl)
-
-  -- a time that ended well and gave more than the words lent hold is the first
-  goes-again : {meant : Result St} {g : Going} → 2 * room ≤ length o → Before o first k meant → Outcome room (take k o) meant g
-      → stopped? (g .does .n .stop) ≡ false → told? (g .does .n) k ≡ false
-      → Before o first (length o) meant × (k ≡ first) × (k < length o)
-  unfolding told?
-  goes-again fits b (refused {r} {g} s) h q = clash (stopped? (g .does .n .stop)) (s .halts) h
-  goes-again fits (untried z) (done {s} {g} d) h q =
-      let more : leb (2 * g .does .n .outs) k ≡ false = rw (d .fine) at q in
-      let over : k < 2 * g .does .n .outs = nleb→lt (2 * g .does .n .outs) k (rw more tt) in
-      (tried refl, z, omega (arith, over, d .outs-count, d .outs-few))
-  goes-again fits (tried z) (done {s} {g} d) h q =
-      let more : leb (2 * g .does .n .outs) k ≡ false = rw (d .fine) at q in
-      let over : k < 2 * g .does .n .outs = nleb→lt (2 * g .does .n .outs) k (rw more tt) in
-      absurd (omega (arith, over, z, d .outs-count, d .outs-few))
-
-module _ (form : Form) (t own state o : List ℕ) (ors : StateSet) (e i first : ℕ) (ready : Ready t own ors form) (lends : first ≤ length o) where
-  abbrev meant : Result St
-  meant = macrostep (eventsOf t) (roomFor (length o)) (machineOf form t) e (take i state) (drop i state)
-
-  -- The macrostep, gone through with k of the words `outs` lent, came to n and these words.
-  module _ (room j k : ℕ) (outs queue : List ℕ) (is : room ≡ roomFor (length o)) (same-words : j ≡ i) (same-outs : outs ≡ o)
-      (long : length queue ≡ 32) (before : Before o first k meant) (n : Progress) (words vars part queue′ : List ℕ)
-      (pass : going n words vars part queue′
-      ≡ turns 64 (eventsOf t) room (machineOf form t) e (going fresh (take j state) (drop j state) (take k outs) queue)) where
-    came : Outcome (roomFor (length o)) (take k o) meant (going n words vars part queue′)
-    came =
-        let alike : turns 64 (eventsOf t) room (machineOf form t) e (going fresh (take j state) (drop j state) (take k outs) queue)
-        ≡ turns 64 (eventsOf t) (roomFor (length o)) (machineOf form t) e (going fresh (take i state) (drop i state) (take k o) queue) =
-        rw (is, same-words, same-outs) refl in
-        subst (Outcome (roomFor (length o)) (take k o) meant) (sym (pass ∙ alike))
-        (same (eventsOf t) (roomFor (length o)) (machineOf form t) e (take i state) (drop i state) (take k o) queue
-        (form-small form t own ors ready) (room-few (length o)) long)
-
-    pub told-pass : told? n k ≡ true → Ends form t state o n (handed form t n words vars state) (part ++ drop k outs) meant
-    told-pass h = rw same-outs (told-ends form t state o (roomFor (length o)) first k (before-fits lends before) came h)
-
-    -- it is not told, and the words kept are put back
-    module _ (kept loaded : List ℕ) (as-long : length part ≡ length (take k outs)) (keeps : kept ≡ take first o)
-        (loads : loaded ≡ take (length (take first (part ++ drop k outs))) kept) where
-      back : k ≡ first → loaded ++ drop first (part ++ drop k outs) ≡ o
-      back z = put-back o outs part kept loaded first k z lends same-outs as-long keeps loads
-
-      pub stop-pass : stopped? (n .stop) ≡ true
-          → Ends form t state o n (handed form t n words vars state) (loaded ++ drop first (part ++ drop k outs)) meant
-      stop-pass h = stop-ends form t state o (roomFor (length o)) first k before came h _ back
-
-      pub again-pass : stopped? (n .stop) ≡ false → told? n k ≡ false
-          → Before o first (length o) meant × (loaded ++ drop first (part ++ drop k outs) ≡ o) × (k < length o)
-      again-pass h q =
-          let again = goes-again form t state o (roomFor (length o)) first k (room-fits (length o)) before came h q in
-          (again .0, back (again .1), again .2)
+      halted (record { halts = s .halts; why = s .why; state-stays = refl; outs-stay = back z })
+  stop-ends b (done {s} {g} d) h outs back = clash (stopped? (g .does .n)) h (d .fine)

@@ -7,12 +7,12 @@ use native.Mathlib.Omega.{arith}
 use lib.ListN.{length, getD, take, drop, length-drop}
 use lib.Seq.{take-length}
 use Rattle.effects.specs.Run.{Machine}
-use Rattle.effects.specs.Work.{Going, going, doSteps, onN, microDone, popped, stopAt, ended?, turns}
+use Rattle.effects.specs.Work.{Going, going, doSteps, onN, microDone, popped, stopAt, headOf, ended?, turns}
 use Rattle.effects.specs.declared.Progress.{Progress}
 use Rattle.effects.specs.declared.Stop.the-variants.{Microsteps}
 
 -- a slice filled from one of its length
-pub filled : (to from : List ℕ) (n : ℕ) → n ≡ length from → to ≡ take n from → to ≡ from
+filled : (to from : List ℕ) (n : ℕ) → n ≡ length from → to ≡ take n from → to ≡ from
 filled to from n e p = p ∙ ap (λ (k : ℕ). take k from) e ∙ take-length from
 
 -- a slice filled from what is behind the first n words
@@ -23,7 +23,7 @@ module _ (events room : ℕ) (m : Machine) where
   -- what follows a microstep
   after : ℕ → Going → Going
   after f h =
-      cond (ended? (h .does .n)) h (turns f events room m (events + getD (h .does .queue) (h .does .n .head % 32) 0) (onN popped h))
+      cond (ended? (h .does .n)) h (turns f events room m (events + getD (h .does .queue) (headOf (h .does .n) % 32) 0) (onN popped h))
 
   one-turn : (f e : ℕ) (g : Going)
       → turns (suc f) events room m e g ≡ after f (onN microDone (doSteps room (m e (g .words) (g .does .vars)) g))
@@ -46,7 +46,7 @@ module _ (events room : ℕ) (m : Machine) where
     unfolding after
     ends h = turned ∙ rw h refl
 
-    pub goes-on : ended? q ≡ false → (k e′ : ℕ) → k ≡ events → e′ ≡ k + getD queue′ (q .head % 32) 0 → (p : Progress) → p ≡ popped q
+    pub goes-on : ended? q ≡ false → (k e′ : ℕ) → k ≡ events → e′ ≡ k + getD queue′ (headOf q % 32) 0 → (p : Progress) → p ≡ popped q
         → turns f events room m e (going n words vars outs queue) ≡ turns (f - 1) events room m e′ (going p words′ vars′ outs′ queue′)
     unfolding after
     goes-on h k e′ is a p b = turned ∙ rw (h, a, is, b) refl

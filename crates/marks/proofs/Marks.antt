@@ -5,14 +5,15 @@ use mathlib.Core.Bool.{Bool, true, false, cond}
 use mathlib.Core.List.{List}
 use mathlib.Core.Logic.{_≢_}
 use native.Mathlib.Nat.{le-add-right}
-use native.Mathlib.Decide.{ℕ-discrete, decLt}
+use native.Mathlib.Decide.{ℕ-discrete}
 use native.Mathlib.Omega.{arith}
 use lib.Dec.{eqb}
 use lib.Count.{trailingZeros, trailing-of-zero}
 use lib.ListN.{length, getD, set}
 use lib.Seq.{getD-set-same, getD-set-other}
 use Rattle.words.specs.Next.{Onward, Last}
-use Rattle.words.proofs.Tests.{eqb-yes, eqb-no}
+use Rattle.words.proofs.Tests.{by-bool, eqb-yes, eqb-no, eqb-self}
+use Rattle.words.proofs.Skip.{None, none-on}
 use Rattle.marks.specs.Bits.{bitAt, setBit, clearBit, marked, withMark, withoutMark}
 use Rattle.marks.proofs.Bits.{set-bit, clear-bit}
 use Rattle.marks.proofs.Zeros.{lowest, lowest-in}
@@ -44,31 +45,30 @@ module _ (k : ℕ) (marks : List ℕ) where
     unfolding withMark
     marked-with = turned (setBit (getD marks (k / 16) 0) (k % 16)) true l (set-bit (getD marks (k / 16) 0) (k % 16)) j
 
+    pub with-still : marked marks j ≡ true → marked (withMark k marks) j ≡ true
+    with-still m = marked-with ∙ by-bool (eqb j k) (λ q. rw q refl) (λ q. rw q m)
+
     pub marked-without : marked (withoutMark k marks) j ≡ cond (eqb j k) false (marked marks j)
     unfolding withoutMark
     marked-without = turned (clearBit (getD marks (k / 16) 0) (k % 16)) false l (clear-bit (getD marks (k / 16) 0) (k % 16)) j
 
--- ---- numbers one after another
--- from a on, below b, none passes
-abbrev pub None : (ℕ → Bool) → ℕ → ℕ → Type 0
-None p a b = (j : ℕ) → a ≤ j → j < b → p j ≡ false
+  pub with-now : k < 16 * length marks → marked (withMark k marks) k ≡ true
+  with-now l = marked-with l k ∙ rw (eqb-self k) refl
 
+-- ---- numbers one after another
 -- where none passes, the search goes on
 module _ (p : ℕ → Bool) where
-  pub none-on : (a b c : ℕ) → None p a b → None p b c → None p a c
-  none-on a b c f g j l h = elim (decLt j b) [ yes q ↦ f j l q | no q ↦ g j (omega arith) h ]
-
   pub onward-on : (k j n r : ℕ) → k ≤ j → None p k j → Onward p j n r → Onward p k n r
   onward-on k j n r l f o = record {
     from = omega (arith, o .from);
-    skipped = none-on k j r f (o .skipped);
+    skipped = none-on p k j r f (o .skipped);
     member = o .member;
   }
 
   pub last-on : (n k r : ℕ) → n ≤ k → None p n k → Last p n r → Last p k r
   last-on n k r l f o = record {
     up-to = omega (arith, o .up-to);
-    skipped = none-on r n k (o .skipped) f;
+    skipped = none-on p r n k (o .skipped) f;
     member = o .member;
   }
 

@@ -75,21 +75,30 @@ module _ {c : Chart} (w : Tree c) (x y : List ℕ) (t : ℕ) (Free : ℕ → Typ
       ∙ sym (entered-and w x t j h a))
       (λ a. entered-or w y t j h a ∙ sym (entered-or w x t j h a)))
 
+  pub enters-same : enters c y t ≡ enters c x t
+  unfolding enters
+  enters-same =
+      joinUp-cong (c .states) (λ j h. ap (λ (b : Bool). when (scoped c t && b) (enterStep c j)) (entered-same j h))
+
   pub fires-same : fires c y (actives c y) t ≡ fires c x (actives c x) t
-  unfolding fires leaves enters
+  unfolding fires leaves
   fires-same =
       ap₂ (λ (l r : List Step). l ++ (takeStep c t ∷ r))
       (joinDown-cong (c .states) (λ j h. ap (λ (b : Bool). when b (leaveStep c j)) (left-same j h)))
-      (joinUp-cong (c .states) (λ j h. ap (λ (b : Bool). when (scoped c t && b) (enterStep c j)) (entered-same j h)))
+      enters-same
 
 -- a transition without targets looks at no word
+pub enters-idle : (c : Chart) (x y : List ℕ) (t : ℕ) → scoped c t ≡ false → enters c y t ≡ enters c x t
+unfolding enters
+enters-idle c x y t q = rw q (joinUp-cong (c .states) (λ j h. refl))
+
 pub fires-idle : (c : Chart) (x y : List ℕ) (t : ℕ) → scoped c t ≡ false
     → fires c y (actives c y) t ≡ fires c x (actives c x) t
-unfolding fires leaves enters
+unfolding fires leaves
 fires-idle c x y t q =
     let out : (j : ℕ) → (scoped c t && beneath c (scope c t) j) ≡ false = λ j. rw q refl in
     ap₂ (λ (l r : List Step). l ++ (takeStep c t ∷ r))
     (joinDown-cong (c .states)
     (λ j h. ap (λ (b : Bool). when b (leaveStep c j))
     (not-left c (actives c y) t j (out j) ∙ sym (not-left c (actives c x) t j (out j)))))
-    (rw q (joinUp-cong (c .states) (λ j h. refl)))
+    (enters-idle c x y t q)

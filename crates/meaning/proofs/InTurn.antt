@@ -20,14 +20,14 @@ use Rattle.meaning.specs.Active.{orRank, child, actives}
 use Rattle.meaning.specs.Scope.{scope, scoped, related}
 use Rattle.meaning.specs.Taken.{enabled, takenAt, takens}
 use Rattle.meaning.specs.Entered.{entereds}
-use Rattle.meaning.specs.Steps.{fires, chartMachine}
+use Rattle.meaning.specs.Steps.{enters, fires, chartMachine}
 use Rattle.meaning.specs.Theorems.{inTurn, SameInTurn}
 use Rattle.meaning.proofs.Tree.{Tree, tree}
 use Rattle.meaning.proofs.Words.{or-inj}
 use Rattle.meaning.proofs.Stores.{setAll-cell}
 use Rattle.meaning.proofs.Sets.{comes-and, upto, took, machine-upto, From, sets-from}
 use Rattle.meaning.proofs.Entered.{entered-in}
-use Rattle.meaning.proofs.Beside.{fires-same, fires-idle}
+use Rattle.meaning.proofs.Beside.{enters-same, enters-idle, fires-same, fires-idle}
 
 -- s is one of the transitions before t that are taken and have a scope
 pub record Earlier (c : Chart) (tk : ℕ → Bool) (t s : ℕ) : Type 0 where
@@ -113,6 +113,13 @@ module _ {c : Chart} (w : Tree c) (e : ℕ) (words vars : List ℕ) where
       by-bool (scoped c t)
       (λ b. fires-same w words (done t) t (Free t) (free-above t) (free-below t l q b) (λ o h a f. free-word t o a f))
       (λ b. fires-idle c words (done t) t b)
+
+  -- and it enters the same, whichever states it leaves
+  pub enters-turn : (t : ℕ) → t < c .transitions → tk t ≡ true → enters c (done t) t ≡ enters c words t
+  enters-turn t l q =
+      by-bool (scoped c t)
+      (λ b. enters-same w words (done t) t (Free t) (free-above t) (free-below t l q b) (λ o h a f. free-word t o a f))
+      (λ b. enters-idle c words (done t) t b)
 
   turns : (n : ℕ) → n ≤ c .transitions → inTurn c (takens c e (actives c words) vars) n words ≡ upto c tk words n
   unfolding inTurn

@@ -1,7 +1,7 @@
--- The words that a microstep sets: each is a state that a taken transition enters, at its or-state's place. So words that
--- are children of their or-states stay so. Assumes nothing.
+-- The steps of a microstep, and the words that they set: each is a state that a taken transition enters, at its or-state's place.
+-- So words that are children of their or-states stay so. Assumes nothing.
 use Prim.Native.Nat.{ℕ, _<_}
-use mathlib.Core.Path.{_≡_, refl, sym, _∙_}
+use mathlib.Core.Path.{_≡_, refl, sym, subst, _∙_}
 use mathlib.Core.Logic.{⊎-elim}
 use mathlib.Core.Bool.{Bool, true, false, _&&_, cond}
 use mathlib.Core.List.{List, [], List·Memᴰ, List·Memᴰ·not-nil, List·Memᴰ·append-cases, List·Memᴰ·cases-cons}
@@ -46,6 +46,37 @@ module _ (c : Chart) where
   unfolding chartMachine
   machine-upto e words vars = refl
 
+  -- what holds of each state left, each transition and each state entered holds of each step
+  module _ (tk : ℕ → Bool) (words : List ℕ) (n : ℕ) (P : Step → Type 0) (left : (j : ℕ) → j < c .states → P (leaveStep c j))
+      (own : (t : ℕ) → t < n → P (takeStep c t))
+      (come : (t j : ℕ) → t < n → tk t ≡ true → j < c .states → comes words t j ≡ true → P (enterStep c j)) where
+    same-step : {x y : Step} → x ≡ y → P y → P x
+    same-step e q = subst P (sym e) q
+
+    each-fires : (t : ℕ) → t < n → tk t ≡ true → (x : Step) → List·Memᴰ x (fires c words (actives c words) t) → P x
+    unfolding fires leaves enters
+    each-fires t l q x m =
+        let acts = actives c words in
+        ⊎-elim
+        (λ a. let r = mem-joinDown (λ j. when (left? c acts t j) (leaveStep c j)) (c .states) a in
+        same-step (mem-when (left? c acts t (r .0)) (leaveStep c (r .0)) (r .2) .1) (left (r .0) (r .1)))
+        (λ a. ⊎-elim (λ e. same-step e (own t l))
+        (λ b. let r = mem-joinUp (λ j. when (comes words t j) (enterStep c j)) (c .states) b in
+        let i = mem-when (comes words t (r .0)) (enterStep c (r .0)) (r .2) in
+        same-step (i .1) (come t (r .0) l q (r .1) (i .0)))
+        (List·Memᴰ·cases-cons a))
+        (List·Memᴰ·append-cases (leaves c acts t) m)
+
+    each-turn : (t : ℕ) → t < n → (b : Bool) → tk t ≡ b → (x : Step)
+        → List·Memᴰ x (cond b (fires c words (actives c words) t) []) → P x
+    each-turn t l true q x m = each-fires t l q x m
+    each-turn t l false q x m = absurd (List·Memᴰ·not-nil m)
+
+    pub each-step : (x : Step) → List·Memᴰ x (upto tk words n) → P x
+    each-step x m =
+        let s = mem-joinUp (λ t. cond (tk t) (fires c words (actives c words) t) []) n m in
+        each-turn (s .0) (s .1) (tk (s .0)) refl x (s .2)
+
   -- where a word that is set comes from: a taken transition and a state that it enters
   pub record From (tk : ℕ → Bool) (words : List ℕ) (n : ℕ) (p : ℕ × ℕ) : Type 0 where
     pub by : ℕ
@@ -58,43 +89,25 @@ module _ (c : Chart) where
 
   module _ (tk : ℕ → Bool) (words : List ℕ) (n : ℕ) (p : ℕ × ℕ) where
     -- only entering sets a word
-    leave-sets : (x : Step) (j : ℕ) → x ≡ leaveStep c j → List·Memᴰ p (x .sets) → ⊥
+    leave-sets : (j : ℕ) → List·Memᴰ p (leaveStep c j .sets) → ⊥
     unfolding leaveStep
-    leave-sets x j e m = List·Memᴰ·not-nil (rw e at m)
+    leave-sets j m = List·Memᴰ·not-nil m
 
-    take-sets : (x : Step) (t : ℕ) → x ≡ takeStep c t → List·Memᴰ p (x .sets) → ⊥
+    take-sets : (t : ℕ) → List·Memᴰ p (takeStep c t .sets) → ⊥
     unfolding takeStep
-    take-sets x t e m = List·Memᴰ·not-nil (rw e at m)
+    take-sets t m = List·Memᴰ·not-nil m
 
-    enter-sets : (x : Step) (j : ℕ) → x ≡ enterStep c j → List·Memᴰ p (x .sets) → p ≡ (orRank c (c .parent j), j)
+    enter-sets : (j : ℕ) → List·Memᴰ p (enterStep c j .sets) → p ≡ (orRank c (c .parent j), j)
     unfolding enterStep
-    enter-sets x j e m = List·Memᴰ·eq-of-singleton (rw e at m)
-
-    fires-sets : (t : ℕ) → t < n → tk t ≡ true → (x : Step) → List·Memᴰ x (fires c words (actives c words) t)
-        → List·Memᴰ p (x .sets) → From tk words n p
-    unfolding fires leaves enters
-    fires-sets t l q x m s =
-        let acts = actives c words in
-        ⊎-elim
-        (λ a. let r = mem-joinDown (λ j. when (left? c acts t j) (leaveStep c j)) (c .states) a in
-        absurd (leave-sets x (r .0) (mem-when (left? c acts t (r .0)) (leaveStep c (r .0)) (r .2) .1) s))
-        (λ a. ⊎-elim (λ e. absurd (take-sets x t e s))
-        (λ b. let r = mem-joinUp (λ j. when (comes words t j) (enterStep c j)) (c .states) b in
-        let i = mem-when (comes words t (r .0)) (enterStep c (r .0)) (r .2) in
-        record { by = t; by-in = l; taken = q; to = r .0; to-in = r .1; enters = i .0; is = enter-sets x (r .0) (i .1) s })
-        (List·Memᴰ·cases-cons a))
-        (List·Memᴰ·append-cases (leaves c acts t) m)
-
-    turn-sets : (t : ℕ) → t < n → (b : Bool) → tk t ≡ b → (x : Step)
-        → List·Memᴰ x (cond b (fires c words (actives c words) t) []) → List·Memᴰ p (x .sets) → From tk words n p
-    turn-sets t l true q x m = fires-sets t l q x m
-    turn-sets t l false q x m = absurd (List·Memᴰ·not-nil m)
+    enter-sets j m = List·Memᴰ·eq-of-singleton m
 
     pub sets-from : List·Memᴰ p (setsOf (upto tk words n)) → From tk words n p
     sets-from m =
         let r = mem-joined (λ (x : Step). x .sets) (upto tk words n) m in
-        let s = mem-joinUp (λ t. cond (tk t) (fires c words (actives c words) t) []) n (r .1) in
-        turn-sets (s .0) (s .1) (tk (s .0)) refl (r .0) (s .2) (r .2)
+        each-step tk words n (λ x. List·Memᴰ p (x .sets) → From tk words n p) (λ j h s. absurd (leave-sets j s))
+        (λ t l s. absurd (take-sets t s))
+        (λ t j l q h e s. record { by = t; by-in = l; taken = q; to = j; to-in = h; enters = e; is = enter-sets j s })
+        (r .0) (r .1) (r .2)
 
   module _ (w : Tree c) where
     pub upto-children : (tk : ℕ → Bool) (words : List ℕ) (n : ℕ) → Children c words

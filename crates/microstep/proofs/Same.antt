@@ -16,6 +16,7 @@ use Rattle.meaning.specs.Active.{actives, active}
 use Rattle.meaning.specs.Scope.{beneath, scope, scoped, related}
 use Rattle.meaning.specs.Taken.{holds, literalsOf, condition, enabled, takenAt, takens}
 use Rattle.meaning.specs.Steps.{leaveStep, takeStep, left?, leaves, enters, fires, chartMachine}
+use Rattle.microstep.specs.Took.{Took}
 
 tab-same-rule : {A : Type 0} (g h : ℕ → List A → A) (n : ℕ) → ((k : ℕ) (cells : List A) → g k cells ≡ h k cells) → tab g n ≡ tab h n
 tab-same-rule g h zero e = refl
@@ -36,13 +37,13 @@ module _ (c : Chart) (x y : List Bool) (same : (j : ℕ) → getD x j false ≡ 
       ap (λ (b : Bool). eqb (c .trigger t) e && b)
       (ap₂ _&&_ (same (c .source t)) (all-same (holds x vars) (holds y vars) (holds-same vars) (literalsOf c t)))
 
-  pub takens-same : (e : ℕ) (vars : List ℕ) → takens c e x vars ≡ takens c e y vars
+  takens-same : (e : ℕ) (vars : List ℕ) → takens c e x vars ≡ takens c e y vars
   unfolding takens takenAt
   takens-same e vars =
       tab-same-rule (takenAt c e x vars) (takenAt c e y vars) (c .transitions) (λ t cells.
       ap (λ (b : Bool). b && allBelow (λ s. not (getD cells s false && related c s t)) t) (enabled-same e vars t))
 
-  pub fires-same : (words : List ℕ) (t : ℕ) → fires c words x t ≡ fires c words y t
+  fires-same : (words : List ℕ) (t : ℕ) → fires c words x t ≡ fires c words y t
   unfolding fires leaves left?
   fires-same words t =
       ap (λ (xs : List Step). xs ++ (takeStep c t ∷ enters c words t))
@@ -52,13 +53,18 @@ module _ (c : Chart) (x y : List Bool) (same : (j : ℕ) → getD x j false ≡ 
 -- the steps of a microstep, from sets that show what is active and what is taken
 module _ (c : Chart) (e : ℕ) (words vars : List ℕ) (acts tk : List Bool) (a : (j : ℕ) → getD acts j false ≡ active c words j)
     (k : (i : ℕ) → getD tk i false ≡ getD (takens c e acts vars) i false) where
+  are-taken : (i : ℕ) → getD tk i false ≡ getD (takens c e (actives c words) vars) i false
+  unfolding active
+  are-taken i = k i ∙ ap (λ (l : List Bool). getD l i false) (takens-same c acts (actives c words) a e vars)
+
+  pub took : Took c words tk
+  took = record { e = e; vars = vars; are = are-taken }
+
   machine-same : joinUp (λ i. cond (getD tk i false) (fires c words acts i) []) (c .transitions) ≡ chartMachine c e words vars
   unfolding chartMachine active
   machine-same =
       joinUp-cong (c .transitions) (λ t h.
-      ap₂ (λ (b : Bool) (xs : List Step). cond b xs [])
-      (k t ∙ ap (λ (l : List Bool). getD l t false) (takens-same c acts (actives c words) a e vars))
-      (fires-same c acts (actives c words) a words t))
+      ap₂ (λ (b : Bool) (xs : List Step). cond b xs []) (are-taken t) (fires-same c acts (actives c words) a words t))
 
   pub machine-runs : (room i : ℕ) (g h : Going) → e ≡ i
       → h ≡ doSteps room (joinUp (λ i. cond (getD tk i false) (fires c words acts i) []) (c .transitions)) g

@@ -15,6 +15,7 @@ ghost use Rattle.meaning.specs.Entered.{entereds};
 ghost use Rattle.meaning.specs.Steps.{takeStep, fires, chartMachine};
 ghost use Rattle.active.specs.Ors.{Ors};
 ghost use Rattle.moves.specs.Below.{leavesBelow, entersAll};
+ghost use Rattle.microstep.specs.Took.{Took};
 use effects::Progress;
 use states::StateSet;
 use table::Trigger;
@@ -29,7 +30,7 @@ fn leave_and_take(
     room: usize,
     vars: &mut [u16],
     outs: &mut [u16],
-    queue: &mut [u16],
+    queue: &mut [u8],
     n: Progress,
 ) -> Progress
     requires { ⌜ ChartRules (now t) × Ors (view (now t)) (cells ors) × (k < view (now t) .transitions) ⌝ }
@@ -43,20 +44,19 @@ fn leave_and_take(
 fn enter(
     t: &[u16],
     ors: StateSet,
-    current: &[u16],
     k: usize,
     top: usize,
     room: usize,
     next: &mut [u16],
     vars: &mut [u16],
     outs: &mut [u16],
-    queue: &mut [u16],
+    queue: &mut [u8],
     n: Progress,
 ) -> Progress
     requires { ⌜ ChartRules (now t) × Ors (view (now t)) (cells ors) × (k < view (now t) .transitions) × (top ≡ scope (view (now t)) k) ⌝ }
-    ensures { λ r. ⌜ going r (now (next .exit)) (now (vars .exit)) (now (outs .exit)) (now (queue .exit)) ≡ doSteps room (entersAll (view (now (t .entry))) (entereds (view (now (t .entry))) (now (current .entry)) k)) (going n (now (next .entry)) (now (vars .entry)) (now (outs .entry)) (now (queue .entry))) ⌝ }
+    ensures { λ r. ⌜ going r (now (next .exit)) (now (vars .exit)) (now (outs .exit)) (now (queue .exit)) ≡ doSteps room (entersAll (view (now (t .entry))) (entereds (view (now (t .entry))) (now (next .entry)) k)) (going n (now (next .entry)) (now (vars .entry)) (now (outs .entry)) (now (queue .entry))) ⌝ }
 {
-    let entered = entered::entered_set(t, ors, current, k, top);
+    let entered = entered::entered_set(t, ors, next, k, top);
     moves::enter_all(t, ors, entered, room, next, vars, outs, queue, n)
 }
 
@@ -64,83 +64,68 @@ fn enter(
 fn fire(
     t: &[u16],
     ors: StateSet,
-    current: &[u16],
     acts: StateSet,
     k: usize,
     room: usize,
     next: &mut [u16],
     vars: &mut [u16],
     outs: &mut [u16],
-    queue: &mut [u16],
+    queue: &mut [u8],
     n: Progress,
 ) -> Progress
     requires { ⌜ ChartRules (now t) × Ors (view (now t)) (cells ors) × (k < view (now t) .transitions) ⌝ }
-    ensures { λ r. ⌜ going r (now (next .exit)) (now (vars .exit)) (now (outs .exit)) (now (queue .exit)) ≡ doSteps room (fires (view (now (t .entry))) (now (current .entry)) (cells acts) k) (going n (now (next .entry)) (now (vars .entry)) (now (outs .entry)) (now (queue .entry))) ⌝ }
+    ensures { λ r. ⌜ going r (now (next .exit)) (now (vars .exit)) (now (outs .exit)) (now (queue .exit)) ≡ doSteps room (fires (view (now (t .entry))) (now (next .entry)) (cells acts) k) (going n (now (next .entry)) (now (vars .entry)) (now (outs .entry)) (now (queue .entry))) ⌝ }
 {
     if !taken::is_scoped(t, k) {
         return moves::take_own(t, k, room, vars, outs, queue, n);
     }
     let top = taken::scope_of(t, k);
     let m = leave_and_take(t, ors, top, acts, k, room, vars, outs, queue, n);
-    enter(t, ors, current, k, top, room, next, vars, outs, queue, m)
+    enter(t, ors, k, top, room, next, vars, outs, queue, m)
 }
 
-// The transitions of `taken`, in rising number.
+// The transitions of `taken`, in rising number, each on the words that those before it left: of what it reads they changed nothing.
 fn fire_all(
     t: &[u16],
     ors: StateSet,
-    current: &[u16],
     acts: StateSet,
     taken: StateSet,
     room: usize,
     next: &mut [u16],
     vars: &mut [u16],
     outs: &mut [u16],
-    queue: &mut [u16],
+    queue: &mut [u8],
     n: Progress,
 ) -> Progress
-    requires { ⌜ ChartRules (now t) × Ors (view (now t)) (cells ors) ⌝ }
-    ensures { λ r. ⌜ going r (now (next .exit)) (now (vars .exit)) (now (outs .exit)) (now (queue .exit)) ≡ doSteps room (joinUp (λ k. cond (getD (cells taken) k false) (fires (view (now (t .entry))) (now (current .entry)) (cells acts) k) []) (view (now (t .entry)) .transitions)) (going n (now (next .entry)) (now (vars .entry)) (now (outs .entry)) (now (queue .entry))) ⌝ }
+    requires { ⌜ ChartRules (now t) × Ors (view (now t)) (cells ors) × Took (view (now t)) (now next) (cells taken) ⌝ }
+    ensures { λ r. ⌜ going r (now (next .exit)) (now (vars .exit)) (now (outs .exit)) (now (queue .exit)) ≡ doSteps room (joinUp (λ k. cond (getD (cells taken) k false) (fires (view (now (t .entry))) (now (next .entry)) (cells acts) k) []) (view (now (t .entry)) .transitions)) (going n (now (next .entry)) (now (vars .entry)) (now (outs .entry)) (now (queue .entry))) ⌝ }
 {
     let transitions = chart::head(t, chart::TRANSITIONS);
     let mut m = n;
     let mut k = states::next(taken, 0, transitions);
     while k < transitions {
-        m = fire(t, ors, current, acts, k, room, next, vars, outs, queue, m);
+        m = fire(t, ors, acts, k, room, next, vars, outs, queue, m);
         k = states::next(taken, k + 1, transitions);
     }
     m
 }
 
-// One microstep for trigger e. `current` are the state words at its start; `next` is to be current at its end.
+// One microstep for trigger e, from the words of `next` to those of `next`.
 pub fn run(
     t: &[u16],
     ors: StateSet,
-    current: &[u16],
     e: Trigger,
     room: usize,
     next: &mut [u16],
     vars: &mut [u16],
     outs: &mut [u16],
-    queue: &mut [u16],
+    queue: &mut [u8],
     n: Progress,
 ) -> Progress
     requires { ⌜ ChartRules (now t) × Ors (view (now t)) (cells ors) ⌝ }
-    ensures { λ r. ⌜ going r (now (next .exit)) (now (vars .exit)) (now (outs .exit)) (now (queue .exit)) ≡ doSteps room (chartMachine (view (now (t .entry))) (e .0) (now (current .entry)) (now (vars .entry))) (going n (now (next .entry)) (now (vars .entry)) (now (outs .entry)) (now (queue .entry))) ⌝ }
+    ensures { λ r. ⌜ going r (now (next .exit)) (now (vars .exit)) (now (outs .exit)) (now (queue .exit)) ≡ doSteps room (chartMachine (view (now (t .entry))) (e .0) (now (next .entry)) (now (vars .entry))) (going n (now (next .entry)) (now (vars .entry)) (now (outs .entry)) (now (queue .entry))) ⌝ }
 {
-    let acts = active::active_set(t, ors, current);
+    let acts = active::active_set(t, ors, next);
     let taken = taken::taken_set(t, effects::wide(e.0), acts, vars);
-    fire_all(
-        t,
-        ors,
-        current,
-        acts,
-        taken,
-        room,
-        next,
-        vars,
-        outs,
-        queue,
-        n,
-    )
+    fire_all(t, ors, acts, taken, room, next, vars, outs, queue, n)
 }

@@ -24,7 +24,7 @@ fn leave_one(
     room: usize,
     vars: &mut [u16],
     outs: &mut [u16],
-    queue: &mut [u16],
+    queue: &mut [u8],
     n: Progress,
 ) -> Progress
     requires { ⌜ ChartRules (now t) × (j < view (now t) .states) ⌝ }
@@ -54,7 +54,7 @@ pub fn leave_all(
     room: usize,
     vars: &mut [u16],
     outs: &mut [u16],
-    queue: &mut [u16],
+    queue: &mut [u8],
     n: Progress,
 ) -> Progress
     requires { ⌜ ChartRules (now t) × Ors (view (now t)) (cells ors) ⌝ }
@@ -80,7 +80,7 @@ fn enter_one(
     next: &mut [u16],
     vars: &mut [u16],
     outs: &mut [u16],
-    queue: &mut [u16],
+    queue: &mut [u8],
     n: Progress,
 ) -> Progress
     requires { ⌜ ChartRules (now t) × (j < view (now t) .states) × Ors (view (now t)) (cells ors) × (view (now t) .parent j < view (now t) .states) ⌝ }
@@ -109,7 +109,7 @@ pub fn enter_all(
     next: &mut [u16],
     vars: &mut [u16],
     outs: &mut [u16],
-    queue: &mut [u16],
+    queue: &mut [u8],
     n: Progress,
 ) -> Progress
     requires { ⌜ ChartRules (now t) × Ors (view (now t)) (cells ors) × ((j : ℕ) → getD (cells entered) j false ≡ true → view (now t) .parent j < view (now t) .states) ⌝ }
@@ -132,7 +132,7 @@ pub fn take_own(
     room: usize,
     vars: &mut [u16],
     outs: &mut [u16],
-    queue: &mut [u16],
+    queue: &mut [u8],
     n: Progress,
 ) -> Progress
     requires { ⌜ ChartRules (now t) × (k < view (now t) .transitions) ⌝ }

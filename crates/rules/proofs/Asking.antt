@@ -1,16 +1,15 @@
 -- Guards that are asked for are marked, and stay so. Assumes nothing.
 use Prim.Native.Nat.{ℕ, _+_, _*_, _<_, _≤_}
-use mathlib.Core.Path.{_≡_, refl, _∙_}
+use mathlib.Core.Path.{_≡_}
 use mathlib.Core.Bool.{true}
 use mathlib.Core.List.{List}
 use native.Mathlib.Omega.{arith}
 use lib.ListN.{length}
-use lib.Dec.{eqb}
 use Rattle.words.specs.Next.{Next}
-use Rattle.words.proofs.Tests.{by-bool, last-or, eqb-self}
+use Rattle.words.proofs.Tests.{last-or}
 use Rattle.flat.specs.View.{Flat}
 use Rattle.marks.specs.Bits.{marked, withMark}
-use Rattle.marks.proofs.Marks.{marked-with}
+use Rattle.marks.proofs.Marks.{with-now, with-still}
 use Rattle.rules.specs.Stretch.{has?, Asked}
 use Rattle.rules.proofs.Seeking.{not-skipped}
 
@@ -20,10 +19,10 @@ Stays before after = (a : ℕ) → marked before a ≡ true → marked after a �
 
 module _ (k : ℕ) (before after : List ℕ) (l : k < 16 * length before) (e : after ≡ withMark k before) where
   marked-now : marked after k ≡ true
-  marked-now = rw e (marked-with k before l k ∙ rw (eqb-self k) refl)
+  marked-now = rw e (with-now k before l)
 
   marked-still : Stays before after
-  marked-still a m = rw e (marked-with k before l a ∙ by-bool (eqb a k) (λ q. rw q refl) (λ q. rw q m))
+  marked-still a m = rw e (with-still k before l a m)
 
 module _ (f : Flat) (k a b : ℕ) (first : a ≡ f .first-guard k) (second : b ≡ f .second-guard k) where
   -- the first guard of rule k is marked, and then the second; or the first, where they are the same

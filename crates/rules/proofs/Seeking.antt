@@ -7,21 +7,18 @@ use native.Mathlib.Decide.{decLt}
 use native.Mathlib.Omega.{arith}
 use Rattle.words.specs.Next.{Next}
 use Rattle.words.proofs.Tests.{last-or, clash}
+use Rattle.words.proofs.Skip.{None}
 
 module _ (p : ℕ → Bool) (k : ℕ) where
-  -- none from k on passes, up to j
-  abbrev pub Skipped : ℕ → Type 0
-  Skipped j = (i : ℕ) → k ≤ i → i < j → p i ≡ false
-
   -- one number more is skipped
-  pub skip : (j r : ℕ) → r ≡ j + 1 → Skipped j → p j ≡ false → Skipped r
+  pub skip : (j r : ℕ) → r ≡ j + 1 → None p k j → p j ≡ false → None p k r
   skip j r e none fails i h l = last-or i j (omega arith) (none i h) (λ q. ap p q ∙ fails)
 
   -- the number after those skipped passes; or all are skipped
-  pub found : (n j : ℕ) → k ≤ j → j < n → Skipped j → p j ≡ true → Next p k n j
+  pub found : (n j : ℕ) → k ≤ j → j < n → None p k j → p j ≡ true → Next p k n j
   found n j h l none passes = record { from = h; up-to = omega arith; skipped = none; member = λ m. passes }
 
-  pub not-found : (n j : ℕ) → k ≤ j → j ≡ n → Skipped j → Next p k n n
+  pub not-found : (n j : ℕ) → k ≤ j → j ≡ n → None p k j → Next p k n n
   not-found n j h e none = record {
     from = omega arith;
     up-to = le-refl n;

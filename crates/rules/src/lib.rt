@@ -126,7 +126,7 @@ fn fire_one(
     next: &mut [u16],
     vars: &mut [u16],
     outs: &mut [u16],
-    queue: &mut [u16],
+    queue: &mut [u8],
     n: Progress,
 ) -> Progress
     requires { ⌜ FlatRules (now t) × (k < flatView (now t) .rules) × (flatView (now t) .guards ≤ 16 * length (now marks)) ⌝ }
@@ -160,7 +160,7 @@ fn fire_all(
     next: &mut [u16],
     vars: &mut [u16],
     outs: &mut [u16],
-    queue: &mut [u16],
+    queue: &mut [u8],
     n: Progress,
 ) -> Progress
     requires { ⌜ FlatRules (now t) × (flatView (now t) .guards ≤ 16 * length (now marks)) × Stretch (flatView (now t)) e from until ⌝ }
@@ -185,7 +185,7 @@ pub fn run(
     next: &mut [u16],
     vars: &mut [u16],
     outs: &mut [u16],
-    queue: &mut [u16],
+    queue: &mut [u8],
     n: Progress,
 ) -> Progress
     requires { ⌜ FlatRules (now t) × (flatView (now t) .guards ≤ 16 * length (now marks)) × (length (now next) ≡ flatView (now t) .machines) ⌝ }

@@ -4,7 +4,7 @@ ghost use mathlib.Core.Bool.{true, false, not, _&&_, _||_};
 ghost use Prim.Native.Nat.{ℕ, _<_};
 ghost use lib.ListN.{getD};
 ghost use Rattle.words.specs.Loops.{all, allBelow};
-ghost use Rattle.chart.specs.View.{view};
+ghost use Rattle.chart.specs.View.{view, transitionAt};
 ghost use Rattle.chart.specs.Readable.{Readable};
 ghost use Rattle.chart.specs.Tree.{within};
 ghost use Rattle.chart_rules.specs.Rules.{ChartRules};
@@ -14,13 +14,13 @@ ghost use Rattle.meaning.specs.Taken.{holds, condition, enabled, takenAt, taken
 use chart::Literal;
 use states::StateSet;
 
-// Whether every target of transition k is below o.
-fn all_beneath(t: &[u16], k: usize, o: usize) -> bool
-    requires { ⌜ ChartRules (now t) × (k < view (now t) .transitions) ⌝ }
+// Whether every target of transition k, whose words begin at `at`, is below o.
+fn all_beneath(t: &[u16], k: usize, at: usize, o: usize) -> bool
+    requires { ⌜ ChartRules (now t) × (k < view (now t) .transitions) × (at ≡ transitionAt (now t) k) ⌝ }
     ensures { λ r. ⌜ r ≡ all (beneath (view (now (t .entry))) o) (targetsOf (view (now (t .entry))) k) ⌝ }
 {
-    let mut i = chart::transition_word(t, k, chart::AIMS);
-    let mut left = chart::transition_word(t, k, chart::AIMS + 1);
+    let mut i = chart::transition_word_at(t, k, at, chart::AIMS);
+    let mut left = chart::transition_word_at(t, k, at, chart::AIMS + 1);
     while 0 < left {
         if !active::is_beneath(t, o, chart::target_word(t, i)) {
             return false;
@@ -32,30 +32,47 @@ fn all_beneath(t: &[u16], k: usize, o: usize) -> bool
 }
 
 // Whether o, which is above the source of transition k, is an or-state above every target of it.
-fn is_above_all(t: &[u16], k: usize, o: usize) -> bool
-    requires { ⌜ ChartRules (now t) × (k < view (now t) .transitions) × (o < view (now t) .states) × (beneath (view (now t)) o (view (now t) .source k) ≡ true) ⌝ }
+fn is_above_all(t: &[u16], k: usize, at: usize, o: usize) -> bool
+    requires { ⌜ ChartRules (now t) × (k < view (now t) .transitions) × (o < view (now t) .states) × (beneath (view (now t)) o (view (now t) .source k) ≡ true) × (at ≡ transitionAt (now t) k) ⌝ }
     ensures { λ r. ⌜ r ≡ aboveAll (view (now (t .entry))) k o ⌝ }
 {
     if chart::is_and(t, o) {
         return false;
     }
-    all_beneath(t, k, o)
+    all_beneath(t, k, at, o)
 }
 
-// The scope of transition k: going up from its source, the first or-state above every target.
+// The scope of transition k, whose words begin at `at`: going up from its source, the first or-state above every target.
+fn scope_at(t: &[u16], k: usize, at: usize) -> usize
+    requires { ⌜ ChartRules (now t) × (k < view (now t) .transitions) × (at ≡ transitionAt (now t) k) ⌝ }
+    ensures is { λ r. ⌜ r ≡ scope (view (now (t .entry))) k ⌝ }
+    ensures small { λ r. ⌜ r < view (now (t .entry)) .states ⌝ }
+{
+    let mut o = chart::transition_word_at(t, k, at, chart::SOURCE);
+    while 0 < o {
+        o = chart::state_word(t, o, chart::PARENT);
+        if is_above_all(t, k, at, o) {
+            return o;
+        }
+    }
+    o
+}
+
+// The scope of transition k.
 pub fn scope_of(t: &[u16], k: usize) -> usize
     requires { ⌜ ChartRules (now t) × (k < view (now t) .transitions) ⌝ }
     ensures is { λ r. ⌜ r ≡ scope (view (now (t .entry))) k ⌝ }
     ensures small { λ r. ⌜ r < view (now (t .entry)) .states ⌝ }
 {
-    let mut o = chart::transition_word(t, k, chart::SOURCE);
-    while 0 < o {
-        o = chart::state_word(t, o, chart::PARENT);
-        if is_above_all(t, k, o) {
-            return o;
-        }
-    }
-    o
+    scope_at(t, k, chart::transition_at(t, k))
+}
+
+// Whether transition k, whose words begin at `at`, has targets, and so a scope.
+fn is_scoped_at(t: &[u16], k: usize, at: usize) -> bool
+    requires { ⌜ Readable (now t) × (k < view (now t) .transitions) × (at ≡ transitionAt (now t) k) ⌝ }
+    ensures { λ r. ⌜ r ≡ scoped (view (now (t .entry))) k ⌝ }
+{
+    chart::transition_word_at(t, k, at, chart::AIMS + 1) != 0
 }
 
 // Whether transition k has targets, and so a scope.
@@ -63,7 +80,7 @@ pub fn is_scoped(t: &[u16], k: usize) -> bool
     requires { ⌜ Readable (now t) × (k < view (now t) .transitions) ⌝ }
     ensures { λ r. ⌜ r ≡ scoped (view (now (t .entry))) k ⌝ }
 {
-    chart::transition_word(t, k, chart::AIMS + 1) != 0
+    is_scoped_at(t, k, chart::transition_at(t, k))
 }
 
 // Whether transition s has a scope, and it and b are related.
@@ -104,13 +121,13 @@ fn does_hold(literal: Literal, acts: StateSet, vars: &[u16]) -> bool
     }
 }
 
-// Whether all literals of transition k hold.
-fn meets_condition(t: &[u16], acts: StateSet, vars: &[u16], k: usize) -> bool
-    requires { ⌜ ChartRules (now t) × (k < view (now t) .transitions) ⌝ }
+// Whether all literals of transition k hold, whose words begin at `at`.
+fn meets_condition(t: &[u16], acts: StateSet, vars: &[u16], k: usize, at: usize) -> bool
+    requires { ⌜ ChartRules (now t) × (k < view (now t) .transitions) × (at ≡ transitionAt (now t) k) ⌝ }
     ensures { λ r. ⌜ r ≡ condition (view (now (t .entry))) (cells acts) (now (vars .entry)) k ⌝ }
 {
-    let mut i = chart::transition_word(t, k, chart::ASKS);
-    let mut left = chart::transition_word(t, k, chart::ASKS + 1);
+    let mut i = chart::transition_word_at(t, k, at, chart::ASKS);
+    let mut left = chart::transition_word_at(t, k, at, chart::ASKS + 1);
     while 0 < left {
         if !does_hold(chart::literal_at(t, i), acts, vars) {
             return false;
@@ -121,33 +138,33 @@ fn meets_condition(t: &[u16], acts: StateSet, vars: &[u16], k: usize) -> bool
     true
 }
 
-// Whether transition k is enabled.
-fn is_enabled(t: &[u16], e: usize, acts: StateSet, vars: &[u16], k: usize) -> bool
-    requires { ⌜ ChartRules (now t) × (k < view (now t) .transitions) ⌝ }
+// Whether transition k, whose words begin at `at`, is enabled.
+fn is_enabled(t: &[u16], e: usize, acts: StateSet, vars: &[u16], k: usize, at: usize) -> bool
+    requires { ⌜ ChartRules (now t) × (k < view (now t) .transitions) × (at ≡ transitionAt (now t) k) ⌝ }
     ensures { λ r. ⌜ r ≡ enabled (view (now (t .entry))) e (cells acts) (now (vars .entry)) k ⌝ }
 {
-    if chart::transition_word(t, k, chart::TRIGGER) != e {
+    if chart::transition_word_at(t, k, at, chart::TRIGGER) != e {
         return false;
     }
-    if !states::has_in(acts, chart::transition_word(t, k, chart::SOURCE)) {
+    if !states::has_in(acts, chart::transition_word_at(t, k, at, chart::SOURCE)) {
         return false;
     }
-    meets_condition(t, acts, vars, k)
+    meets_condition(t, acts, vars, k, at)
 }
 
 // Whether no transition of `taken` before k has a related scope.
-fn is_free(t: &[u16], k: usize, taken: StateSet) -> bool
-    requires { ⌜ ChartRules (now t) × (k < view (now t) .transitions) ⌝ }
+fn is_free(t: &[u16], k: usize, at: usize, taken: StateSet) -> bool
+    requires { ⌜ ChartRules (now t) × (k < view (now t) .transitions) × (at ≡ transitionAt (now t) k) ⌝ }
     ensures { λ r. ⌜ r ≡ allBelow (λ s. not (getD (cells taken) s false && related (view (now (t .entry))) s k)) k ⌝ }
 {
     let mut s = states::next(taken, 0, k);
     if s == k {
         return true;
     }
-    if !is_scoped(t, k) {
+    if !is_scoped_at(t, k, at) {
         return true;
     }
-    let top = scope_of(t, k);
+    let top = scope_at(t, k, at);
     while s < k {
         if is_related(t, s, top) {
             return false;
@@ -158,14 +175,22 @@ fn is_free(t: &[u16], k: usize, taken: StateSet) -> bool
 }
 
 // Whether transition k is taken, where `taken` has those before it.
-fn is_taken_at(t: &[u16], e: usize, acts: StateSet, vars: &[u16], k: usize, taken: StateSet) -> bool
-    requires { ⌜ ChartRules (now t) × (k < view (now t) .transitions) ⌝ }
+fn is_taken_at(
+    t: &[u16],
+    e: usize,
+    acts: StateSet,
+    vars: &[u16],
+    k: usize,
+    at: usize,
+    taken: StateSet,
+) -> bool
+    requires { ⌜ ChartRules (now t) × (k < view (now t) .transitions) × (at ≡ transitionAt (now t) k) ⌝ }
     ensures { λ r. ⌜ r ≡ takenAt (view (now (t .entry))) e (cells acts) (now (vars .entry)) k (cells taken) ⌝ }
 {
-    if !is_enabled(t, e, acts, vars, k) {
+    if !is_enabled(t, e, acts, vars, k, at) {
         return false;
     }
-    is_free(t, k, taken)
+    is_free(t, k, at, taken)
 }
 
 // The transitions taken.
@@ -176,9 +201,11 @@ pub fn taken_set(t: &[u16], e: usize, acts: StateSet, vars: &[u16]) -> StateSet
     let n = chart::head(t, chart::TRANSITIONS);
     let mut taken = states::none();
     let mut k = 0;
+    let mut at = chart::head(t, chart::TRANSITIONS_AT);
     while k < n {
-        taken = states::grown(taken, k, is_taken_at(t, e, acts, vars, k, taken));
+        taken = states::grown(taken, k, is_taken_at(t, e, acts, vars, k, at, taken));
         k += 1;
+        at += 8;
     }
     taken
 }

@@ -1,12 +1,19 @@
 -- Laws of loops that go from member to member: numbers that add nothing may be skipped. Assumes nothing.
 use Prim.Native.Nat.{ℕ, zero, suc, _<_, _≤_}
 use native.Mathlib.Nat.{le-refl}
-use native.Mathlib.Decide.{le-ind}
+use native.Mathlib.Decide.{decLt, le-ind}
 use native.Mathlib.Omega.{arith}
 use mathlib.Core.Path.{_≡_, refl, ap, ap₂, _∙_}
 use mathlib.Core.Bool.{Bool, true, false, cond, _&&_, and-true}
 use mathlib.Core.List.{List, [], _++_, append-nil}
 use Rattle.words.specs.Loops.{joinUp, joinDown, rank, allBelow}
+
+-- from a on, below b, none passes
+abbrev pub None : (ℕ → Bool) → ℕ → ℕ → Type 0
+None p a b = (j : ℕ) → a ≤ j → j < b → p j ≡ false
+
+pub none-on : (p : ℕ → Bool) (a b c : ℕ) → None p a b → None p b c → None p a c
+none-on p a b c f g j l h = elim (decLt j b) [ yes q ↦ f j l q | no q ↦ g j (omega arith) h ]
 
 -- from k on up to r: what holds of k, and goes on from each number to the next, holds of r
 climb : (P : ℕ → Type 0) (S : ℕ → Type 0) (k r : ℕ) → k ≤ r → P k → ((j : ℕ) → S j → P j → P (suc j))

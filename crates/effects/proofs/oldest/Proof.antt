@@ -4,8 +4,11 @@ use Rattle.effects.proofs.oldest.Statement.{statement}
 use Rattle.effects.proofs.oldest.Tie as tie
 
 returns : tie.Need-returns
-returns c = rw (c .trigger-of .ensures, c .before .word .ensures, c .before .before .wide .ensures .0)
+returns c =
+    let byte = c .before in
+    let head = byte .before .before in
+    rw (c .trigger-of .ensures, byte .byte .ensures, byte .before .wide .ensures .0, head .head-of .ensures .0)
 
 pub oldest-spec : {M : Type 1} → statement M
 oldest-spec = tie.close (tie.spec
-    (λ c κs. search needs) (λ c κs. search needs) (λ c κs. search needs) returns)
+    (λ c κs. search needs) (λ c κs. search needs) (λ c κs. search needs) (λ c. search needs) (λ c κs. search needs) returns)

@@ -1,4 +1,4 @@
--- `effects::raise` meets its contract: its compare is the test of `doRaise`, `put` writes the signal. Assumes nothing.
+-- `effects::raise` meets its contract: its compare is the test of `doRaise`, `put_byte` writes the signal. Assumes nothing.
 use borrow.Author.Tests.{le-leb, lt-leb}
 use Rattle.effects.specs.Work.{doRaise}
 use borrow.Author.Needs.{needs}
@@ -8,23 +8,23 @@ use Rattle.effects.proofs.raise.Tie as tie
 returns : tie.Need-returns
 unfolding doRaise
 returns c =
-    let e = c .before .before .before .wide .ensures .0 in
-    let h = c .before .before .wide2 .ensures .0 in
-    rw (c .stop-at .ensures, le-leb _ _ (rw (e, h) at (c .before .if1 .taken)))
+    let h = c .before .before .head-of .ensures .0 in
+    let t = c .before .before .before .tail-of .ensures .0 in
+    rw (c .stop-at .ensures, le-leb _ _ (rw (h, t) at (c .before .if1 .taken)))
 
 returns-2 : tie.Need-returns-2
 unfolding doRaise
 returns-2 c =
     let put = c .before .before .before in
-    let room = put .before .before .before in
-    let e = room .before .before .wide .ensures .0 in
-    let h = room .before .wide2 .ensures .0 in
-    let t = put .before .wide3 .ensures .0 in
-    rw (c .one-more .ensures, put .put .ensures, t, lt-leb _ _ (rw (e, h) at (room .if1 .left)))
+    let wide = put .before .before in
+    let room = wide .before .before in
+    let h = room .before .head-of .ensures .0 in
+    let t = room .before .before .tail-of .ensures .0 in
+    rw (c .advanced .ensures, put .put-byte .ensures, wide .wide .ensures .0, t, lt-leb _ _ (rw (h, t) at (room .if1 .left)))
 
 pub raise-spec : {M : Type 1} → statement M
 raise-spec =
     tie.close
     (tie.spec
-    (λ c κs. search needs) (λ c. search needs) (λ c κs. search needs) (λ c κs. search needs) returns
-    (λ c κs. search needs) (λ c κs. search needs) (λ c κs. search needs) (λ c. search needs) returns-2)
+    (λ c κs. search needs) (λ c κs. search needs) (λ c. search needs) (λ c κs. search needs) returns
+    (λ c κs. search needs) (λ c. search needs) (λ c κs. search needs) (λ c κs. search needs) (λ c. search needs) returns-2)

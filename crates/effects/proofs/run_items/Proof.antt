@@ -24,7 +24,7 @@ abbrev μ-loop : tie.MeasureT-loop
 returns : tie.Need-returns Inv-loop μ-loop
 returns c =
     let l = c .before .before .before .loop in
-    let halts = sym (c .before .has-stopped .ensures) ∙ c .if1 .taken in
+    let halts = sym (c .before .is-stopped .ensures) ∙ c .if1 .taken in
     sym (l .inv .4 ∙ stop _ _ _ _ _ (c .before .before .loop-test .taken) halts)
 
 loop-again : tie.Need-loop-again Inv-loop μ-loop
@@ -32,7 +32,7 @@ loop-again c =
     let does = c .before .before .before .before .before .before in
     let reads = does .before .before .before .before in
     let runs = reads .before in
-    let goes = sym (runs .before .has-stopped .ensures) ∙ runs .if1 .left in
+    let goes = sym (runs .before .is-stopped .ensures) ∙ runs .if1 .left in
     let turn = runs .before .before in
     let e = turn .before .loop .inv .4 ∙ step _ _ _ _ _ (turn .loop-test .taken) goes in
     (omega arith, search needs, search needs, search needs, rw (does .do-item .ensures, reads .item-at .ensures) e)

@@ -7,9 +7,15 @@ use Rattle.effects.proofs.run_span.Tie as tie
 
 returns : tie.Need-returns
 returns c =
-    let s = c .before .before .before .before .before .before .before .before .before .before .before .before .before .before .before .before .before .args in
-    rw (← span-items (now (s .t)) (s .base) (s .at) _ _ _ (c .before .before .before .before .before .before .before .before .before .before .before .before .number-in .ensures .0) (c .before .before .before .before .before .before .before .before .before .before .before .number-in2 .ensures .0) (c .before .before .before .before .before .before .before .before .before .before .number-in3 .ensures .0))
-    (c .before .before .before .before .before .before .run-items .ensures)
+    let runs = c .before .before .before .before .before .before in
+    let count = runs .before .before .before .before in
+    let first = count .before in
+    let from = first .before in
+    let s = from .before .before .before .before .before .args in
+    rw
+    (← span-items (now (s .t)) (s .base) (s .at) _ _ _
+    (from .number-in .ensures .0) (first .number-in2 .ensures .0) (count .number-in3 .ensures .0))
+    (runs .run-items .ensures)
 
 pub run-span-spec : {M : Type 1} → statement M
 run-span-spec =

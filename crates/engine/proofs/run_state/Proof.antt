@@ -2,42 +2,28 @@
 -- Assumes nothing.
 use borrow.Author.Needs.{needs}
 use mathlib.Core.Path.{sym, _∙_}
-use native.Mathlib.Omega.{arith}
 use denote.Ref.{now}
-use lib.ListN.{length}
-use Rattle.meaning.specs.State.{stateLength}
 use Rattle.engine.proofs.Finished.{run-stopped, run-done}
 use Rattle.engine.proofs.run_state.Statement.{statement}
 use Rattle.engine.proofs.run_state.Tie as tie
 
-run-requires : tie.Need-run-requires
-unfolding stateLength
-run-requires c κs =
-    let pre = c .before .before .before .before .before .before .before .pre in (
-      (pre .0, pre .1, pre .2),
-      sym (pre .2),
-      pre .3,
-      omega (arith, pre .2, pre .4),
-      omega (arith, pre .2, pre .4, pre .0 .counts .variables .1),
-    )
-
 returns : tie.Need-returns
 returns c =
-    let s = c .before .before .before .before .before .before .before .before .before .before .before .before .before .before .before .before .before .args in
-    let ran = c .before .before .before .before .before .before .before .before .before .run in
-    run-stopped (now (s .t)) (now (s .state)) (now (s .outputs)) (ran .result) _ _ (s .event .0) (length (now (s .own))) (sym (c .before .before .before .before .before .before .before .before .before .before .before .before .before .before .before .before .before .pre .2))
-    (ran .ensures) (sym (c .before .before .has-stopped .ensures) ∙ c .before .if1 .taken) _ (c .refusal-of .ensures)
+    let s = c .before .before .before .before .before .before .before .before .before .before .before .before .before .args in
+    let ran = c .before .before .before .before .before .before .before .run in
+    run-stopped (now (s .t)) (now (s .state)) (now (s .outputs)) (ran .result) _ _ (s .event .0) (s .words) (c .before .before .before .before .before .before .before .before .before .before .before .before .before .pre .number)
+    (ran .ensures) (sym (c .before .before .is-stopped .ensures) ∙ c .before .if1 .taken) _ (c .refusal-of .ensures)
 
 returns-2 : tie.Need-returns-2
 returns-2 c =
-    let s = c .before .before .before .before .before .before .before .before .before .before .before .before .before .before .before .before .before .args in
-    let ran = c .before .before .before .before .before .before .before .before .before .run in
-    run-done (now (s .t)) (now (s .state)) (now (s .outputs)) (ran .result) _ _ (s .event .0) (length (now (s .own))) (sym (c .before .before .before .before .before .before .before .before .before .before .before .before .before .before .before .before .before .pre .2))
-    (ran .ensures) (sym (c .before .before .has-stopped .ensures) ∙ c .before .if1 .left) _ (c .counts-of .ensures)
+    let s = c .before .before .before .before .before .before .before .before .before .before .before .before .before .args in
+    let ran = c .before .before .before .before .before .before .before .run in
+    run-done (now (s .t)) (now (s .state)) (now (s .outputs)) (ran .result) _ _ (s .event .0) (s .words) (c .before .before .before .before .before .before .before .before .before .before .before .before .before .pre .number)
+    (ran .ensures) (sym (c .before .before .is-stopped .ensures) ∙ c .before .if1 .left) _ (c .counts-of .ensures)
 
 pub run-state-spec : {M : Type 1} → statement M
 run-state-spec =
     tie.close
     (tie.spec
-    run-requires (λ c κs. search needs) (λ c κs. search needs) (λ c. search needs) (λ c. search needs) (λ c. search needs)
-    returns (λ c κs. search needs) (λ c. search needs) (λ c. search needs) (λ c. search needs) returns-2)
+    (λ c κs. search needs) (λ c κs. search needs) (λ c κs. search needs) (λ c. search needs) (λ c. search needs) returns
+    (λ c κs. search needs) (λ c. search needs) (λ c. search needs) returns-2)

@@ -5,7 +5,8 @@ use native.Mathlib.Nat.{le-refl}
 use native.Mathlib.Omega.{arith}
 use denote.Ref.{now}
 use Rattle.marks.specs.Bits.{marked}
-use Rattle.marks.proofs.Marks.{None, none-on, last-on, none-down, first-down}
+use Rattle.words.proofs.Skip.{None, none-on}
+use Rattle.marks.proofs.Marks.{last-on, none-down, first-down}
 use Rattle.marks.proofs.last.Statement.{statement}
 use Rattle.marks.proofs.last.Tie as tie
 

@@ -6,7 +6,8 @@ use native.Mathlib.Omega.{arith}
 use denote.Ref.{now}
 use lib.Count.{trailing-le}
 use Rattle.marks.specs.Bits.{marked}
-use Rattle.marks.proofs.Marks.{None, none-on, onward-on, none-up, first-up}
+use Rattle.words.proofs.Skip.{None, none-on}
+use Rattle.marks.proofs.Marks.{onward-on, none-up, first-up}
 use Rattle.marks.proofs.next.Statement.{statement}
 use Rattle.marks.proofs.next.Tie as tie
 

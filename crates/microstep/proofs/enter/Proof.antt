@@ -14,7 +14,7 @@ enter-all-requires c κs =
     let rules = pre .0 in (
       rules,
       pre .1,
-      λ j e. entered-parent (now (s .t)) rules (now (s .current)) (s .k) j (sym (c .before .before .before .before .entered-set .ensures j) ∙ e),
+      λ j e. entered-parent (now (s .t)) rules (now (s .next)) (s .k) j (sym (c .before .before .before .before .entered-set .ensures j) ∙ e),
     )
 
 returns : tie.Need-returns

@@ -2,55 +2,50 @@
 use borrow.Author.Needs.{needs}
 use Prim.Native.Nat.{ℕ, _-_, _<_, _≤_}
 use mathlib.Core.Path.{_≡_, refl, ap, _∙_}
-use mathlib.Core.Bool.{Bool, true, false, cond}
-use mathlib.Core.List.{List, []}
+use mathlib.Core.Bool.{true, false}
 use native.Mathlib.Omega.{arith}
 use denote.Ref.{now}
 use lib.ListN.{length, getD}
 use Rattle.words.specs.Loops.{joinUp}
-use Rattle.effects.specs.Run.{Step}
 use Rattle.effects.specs.Work.{going, doSteps}
 use Rattle.effects.proofs.Members.{begun, risen}
-use Rattle.chart.specs.View.{Chart, view}
+use Rattle.chart.specs.View.{view}
 use Rattle.chart_rules.proofs.Readable.{chart-needs}
 use Rattle.states.specs.Cells.{cells}
-use Rattle.meaning.specs.Steps.{fires}
+use Rattle.meaning.proofs.Tree.{tree}
+use Rattle.microstep.proofs.Turn.{one, in-turn}
 use Rattle.microstep.proofs.fire_all.Statement.{statement}
 use Rattle.microstep.proofs.fire_all.Tie as tie
 
--- the steps of transition k, where it is taken
-abbrev one : Chart → List ℕ → List Bool → List Bool → ℕ → List Step
-one c words acts taken k = cond (getD taken k false) (fires c words acts k) []
-
 abbrev Inv-loop : tie.InvT-loop
-Inv-loop t ors current acts taken room next₀ vars₀ outs₀ queue₀ transitions m₀ k₀ next vars outs queue m k =
+Inv-loop t ors acts taken room next₀ vars₀ outs₀ queue₀ transitions m₀ k₀ next vars outs queue m k =
     (k ≤ transitions) × (length next ≡ length next₀) × (length vars ≡ length vars₀) × (length outs ≡ length outs₀)
     × (length queue ≡ length queue₀) × (k < transitions → getD (cells taken) k false ≡ true)
-    × (going m next vars outs queue ≡ doSteps room (joinUp (one (view t) current (cells acts) (cells taken)) k) (going m₀ next₀ vars₀ outs₀ queue₀))
+    × (going m next vars outs queue ≡ doSteps room (joinUp (one (view t) next₀ (cells acts) (cells taken)) k) (going m₀ next₀ vars₀ outs₀ queue₀))
 
 abbrev μ-loop : tie.MeasureT-loop
-μ-loop t ors current acts taken room next₀ vars₀ outs₀ queue₀ transitions m₀ k₀ next vars outs queue m k = transitions - k
+μ-loop t ors acts taken room next₀ vars₀ outs₀ queue₀ transitions m₀ k₀ next vars outs queue m k = transitions - k
 
 next-requires : tie.Need-next-requires Inv-loop μ-loop
 next-requires c κs =
-    let pre = c .before .before .before .before .before .before .before .pre in
+    let pre = c .before .before .before .before .before .before .pre in
     (omega arith, omega (arith, c .head .ensures .0, pre .0 .counts .transitions .1))
 
 loop-holds : tie.Need-loop-holds Inv-loop μ-loop
 loop-holds c =
-    let s = c .before .before .before .before .before .before .before .before .args in
+    let s = c .before .before .before .before .before .before .before .args in
     let e = c .next .ensures in
-    let f = one (view (now (s .t))) (now (s .current)) (cells (s .acts)) (cells (s .taken)) in
+    let f = one (view (now (s .t))) (now (s .next)) (cells (s .acts)) (cells (s .taken)) in
     (e .up-to, refl, refl, refl, refl, e .member, begun (s .room) f (λ j. getD (cells (s .taken)) j false) (λ j no. rw no refl) _ _ _ e)
 
 fire-requires : tie.Need-fire-requires Inv-loop μ-loop
 fire-requires c κs =
-    let pre = c .before .before .before .before .before .before .before .before .before .before .before .before .before .before .pre in
+    let pre = c .before .before .before .before .before .before .before .before .before .before .before .before .before .pre in
     (pre .0, pre .1, omega (arith, c .before .before .before .before .before .before .before .head .ensures .0, c .before .before .before .before .loop-test .taken))
 
 next-requires-2 : tie.Need-next-requires-2 Inv-loop μ-loop
 next-requires-2 c κs =
-    let pre = c .before .before .before .before .before .before .before .before .before .before .before .before .before .before .before .before .before .before .before .before .before .before .before .pre in
+    let pre = c .before .before .before .before .before .before .before .before .before .before .before .before .before .before .before .before .before .before .before .before .before .before .pre in
     let n = c .before .before .before .before .before .before .before .before .before .before .before .before .before .before .before .before .head .ensures .0 in
     (omega (arith, c .before .before .before .before .before .before .before .before .before .before .before .before .before .loop-test .taken), omega (arith, n, pre .0 .counts .transitions .1))
 
@@ -60,13 +55,15 @@ loop-less c =
 
 loop-again : tie.Need-loop-again Inv-loop μ-loop
 loop-again c =
-    let s = c .before .before .before .before .before .before .before .before .before .before .before .before .before .before .before .before .before .before .before .before .before .before .before .before .args in
+    let s = c .before .before .before .before .before .before .before .before .before .before .before .before .before .before .before .before .before .before .before .before .before .before .before .args in
+    let pre = c .before .before .before .before .before .before .before .before .before .before .before .before .before .before .before .before .before .before .before .before .before .before .before .pre in
     let l = c .before .before .before .before .before .before .before .before .before .before .before .before .before .before .before .loop in
     let on = c .before .before .before .before .before .before .before .before .before .before .before .before .before .before .loop-test .taken in
     let e = c .next3 .ensures in
-    let does = fires (view (now (s .t))) (now (s .current)) (cells (s .acts)) in
-    let f = one (view (now (s .t))) (now (s .current)) (cells (s .acts)) (cells (s .taken)) in
-    let has = l .inv .5 on in (
+    let f = one (view (now (s .t))) (now (s .next)) (cells (s .acts)) (cells (s .taken)) in
+    let n = c .before .before .before .before .before .before .before .before .before .before .before .before .before .before .before .before .before .head .ensures .0 in
+    let k-in : l .k < view (now (s .t)) .transitions = omega (arith, n, on) in
+    let turn = in-turn (tree (pre .0)) (now (s .next)) (cells (s .acts)) (cells (s .taken)) (pre .2) in (
       e .up-to,
       search needs,
       search needs,
@@ -74,14 +71,14 @@ loop-again c =
       search needs,
       e .member,
       risen (s .room) f (λ j. getD (cells (s .taken)) j false) (λ j no. rw no refl) (l .k) _ _ _ _ e
-          (c .before .before .before .before .before .before .before .before .before .fire .ensures ∙ ap (doSteps (s .room) (does (l .k))) (l .inv .6) ∙ rw has refl),
+          (turn (s .room) (l .k) _ _ _ k-in (l .inv .5 on) refl (l .inv .6) (c .before .before .before .before .before .before .before .before .before .fire .ensures)),
     )
 
 returns : tie.Need-returns Inv-loop μ-loop
 returns c =
-    let s = c .before .before .before .before .before .before .before .before .before .before .args in
+    let s = c .before .before .before .before .before .before .before .before .before .args in
     let l = c .before .loop in
-    let f = one (view (now (s .t))) (now (s .current)) (cells (s .acts)) (cells (s .taken)) in
+    let f = one (view (now (s .t))) (now (s .next)) (cells (s .acts)) (cells (s .taken)) in
     let z : l .k ≡ view (now (s .t)) .transitions = omega (arith, c .before .before .before .head .ensures .0) in
     l .inv .6 ∙ ap (λ (k : ℕ). doSteps (s .room) (joinUp f k) (going (s .n) (now (s .next)) (now (s .vars)) (now (s .outs)) (now (s .queue)))) z
 

@@ -5,14 +5,15 @@ use mathlib.Core.Path.{_≡_, sym, _∙_}
 use native.Mathlib.Omega.{arith}
 use denote.Ref.{now}
 use Rattle.flat.specs.View.{flatView, ruleAt}
+use Rattle.words.proofs.Skip.{None}
 use Rattle.rules.specs.Stretch.{has?}
-use Rattle.rules.proofs.Seeking.{Skipped, skip, found, not-found}
+use Rattle.rules.proofs.Seeking.{skip, found, not-found}
 use Rattle.rules.proofs.seek.Statement.{statement}
 use Rattle.rules.proofs.seek.Tie as tie
 
 -- of both loops
 abbrev Inv-loop : tie.InvT-loop
-Inv-loop t e k n j₀ at₀ j at = (k ≤ j) × (j ≤ n) × (at ≡ ruleAt t j) × Skipped (has? (flatView t) e) k j
+Inv-loop t e k n j₀ at₀ j at = (k ≤ j) × (j ≤ n) × (at ≡ ruleAt t j) × None (has? (flatView t) e) k j
 
 abbrev μ-loop : tie.MeasureT-loop
 μ-loop t e k n j₀ at₀ j at = n - j

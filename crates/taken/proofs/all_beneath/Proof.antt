@@ -14,12 +14,12 @@ use Rattle.taken.proofs.all_beneath.Statement.{statement}
 use Rattle.taken.proofs.all_beneath.Tie as tie
 
 abbrev Inv-loop : tie.InvT-loop
-Inv-loop t k o i₀ left₀ i left =
+Inv-loop t k at o i₀ left₀ i left =
     (i + left ≤ view t .targets)
     × (all (beneath (view t) o) (targetsOf (view t) k) ≡ all (beneath (view t) o) (many (view t .target) i left))
 
 abbrev μ-loop : tie.MeasureT-loop
-μ-loop t k o i₀ left₀ i left = left
+μ-loop t k at o i₀ left₀ i left = left
 
 loop-holds : tie.Need-loop-holds Inv-loop μ-loop
 unfolding targetsOf
@@ -28,8 +28,8 @@ loop-holds c =
     let n = transitionAt (now (s .args .t)) (s .args .k) in
     let behind : n + 7 ≡ n + 6 + 1 = omega arith in
     let inside = s .pre .0 .transition-spans (s .args .k) (s .pre .1) .targets in
-    let first = c .before .transition-word .ensures .0 in
-    let count : c .transition-word2 .result ≡ view (now (s .args .t)) .aims (s .args .k) .count = cc in
+    let first = c .before .transition-word-at .ensures .0 in
+    let count : c .transition-word-at2 .result ≡ view (now (s .args .t)) .aims (s .args .k) .count = cc in
     (omega (arith, inside, first, count), cc)
 
 target-word-requires : tie.Need-target-word-requires Inv-loop μ-loop

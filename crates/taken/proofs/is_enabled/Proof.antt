@@ -18,20 +18,20 @@ returns : tie.Need-returns
 unfolding enabled
 returns c =
     let s = c .before .before .before .before .args in
-    let trigger : c .before .transition-word .result ≡ view (now (s .t)) .trigger (s .k) = cc in
+    let trigger : c .before .transition-word-at .result ≡ view (now (s .t)) .trigger (s .k) = cc in
     rw (← trigger, eqb-no (c .if1 .taken))
 
 has-in-requires : tie.Need-has-in-requires
 has-in-requires c κs =
     let s = c .before .before .before .before .before in
     let source = s .pre .0 .sources (s .args .k) (s .pre .1) .source-in in
-    omega (arith, source, c .transition-word2 .ensures .0, s .pre .0 .counts .states .1)
+    omega (arith, source, c .transition-word-at2 .ensures .0, s .pre .0 .counts .states .1)
 
 returns-2 : tie.Need-returns-2
 unfolding enabled
 returns-2 c =
     let s = c .before .before .before .before .before .before .before .args in
-    let trigger : c .before .before .before .before .transition-word .result ≡ view (now (s .t)) .trigger (s .k) = cc in
+    let trigger : c .before .before .before .before .transition-word-at .result ≡ view (now (s .t)) .trigger (s .k) = cc in
     let source : c .before .has-in .result ≡ getD (cells (s .acts)) (view (now (s .t)) .source (s .k)) false = cc in
     let matched = eqb-yes (c .before .before .before .if1 .left) in
     rw (← trigger, matched, ← source, not-true (c .before .has-in .result) (c .if2 .taken))
@@ -40,7 +40,7 @@ returns-3 : tie.Need-returns-3
 unfolding enabled
 returns-3 c =
     let s = c .before .before .before .before .before .before .before .before .args in
-    let trigger : c .before .before .before .before .before .transition-word .result ≡ view (now (s .t)) .trigger (s .k) = cc in
+    let trigger : c .before .before .before .before .before .transition-word-at .result ≡ view (now (s .t)) .trigger (s .k) = cc in
     let source : c .before .before .has-in .result ≡ getD (cells (s .acts)) (view (now (s .t)) .source (s .k)) false = cc in
     let matched = eqb-yes (c .before .before .before .before .if1 .left) in
     let in-source = not-false (c .before .before .has-in .result) (c .before .if2 .left) in

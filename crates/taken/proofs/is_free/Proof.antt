@@ -49,10 +49,10 @@ all-passed : (c : Chart) (taken : List Bool) (k s : ℕ) → s ≡ k → Passed 
 all-passed c taken k s e p = sym (ap (allBelow (lets? c taken k)) (sym e) ∙ p .let-be)
 
 abbrev Inv-loop : tie.InvT-loop
-Inv-loop t k taken top s₀ s = Passed (view t) (cells taken) k s
+Inv-loop t k at taken top s₀ s = Passed (view t) (cells taken) k s
 
 abbrev μ-loop : tie.MeasureT-loop
-μ-loop t k taken top s₀ s = k - s
+μ-loop t k at taken top s₀ s = k - s
 
 next-requires : tie.Need-next-requires Inv-loop μ-loop
 next-requires c κs = let few = c .before .pre .0 .counts .transitions .1 in (omega arith, omega arith)
@@ -67,7 +67,7 @@ returns c =
 returns-2 : tie.Need-returns-2 Inv-loop μ-loop
 returns-2 c =
     let a = c .before .before .before .before .before .args in
-    let none = sym (c .before .is-scoped .ensures) ∙ not-true (c .before .is-scoped .result) (c .if2 .taken) in
+    let none = sym (c .before .is-scoped-at .ensures) ∙ not-true (c .before .is-scoped-at .result) (c .if2 .taken) in
     let each : (s : ℕ) → lets? (view (now (a .t))) (cells (a .taken)) (a .k) s ≡ true = λ s.
     rw (unscoped (view (now (a .t))) s (a .k) none) (lets (getD (cells (a .taken)) s false)) in
     sym (allBelow-all (a .k) (λ s h. each s))
@@ -83,9 +83,9 @@ returns-3 c =
     let v = view (now (a .t)) in
     let l = c .before .before .before .loop in
     let below = c .before .before .loop-test .taken in
-    let has = c .before .before .before .before .before .before .is-scoped in
+    let has = c .before .before .before .before .before .before .is-scoped-at in
     let scoped = sym (has .ensures) ∙ not-false (has .result) (c .before .before .before .before .before .if2 .left) in
-    let top = c .before .before .before .before .scope-of in
+    let top = c .before .before .before .before .scope-at in
     let told = near v (l .s) (a .k) (top .result) _ scoped (top .ensures .0) (c .before .is-related .ensures) in
     let p = lets? v (cells (a .taken)) (a .k) in
     sym (allBelow-no p (a .k) (l .s) below (rw (l .inv .member below, sym told ∙ c .if3 .taken)))
@@ -101,9 +101,9 @@ loop-again c =
     let v = view (now (a .t)) in
     let l = c .before .before .before .before .loop in
     let p = lets? v (cells (a .taken)) (a .k) in
-    let has = c .before .before .before .before .before .before .before .is-scoped in
+    let has = c .before .before .before .before .before .before .before .is-scoped-at in
     let scoped = sym (has .ensures) ∙ not-false (has .result) (c .before .before .before .before .before .before .if2 .left) in
-    let top = c .before .before .before .before .before .scope-of in
+    let top = c .before .before .before .before .before .scope-at in
     let told = near v (l .s) (a .k) (top .result) _ scoped (top .ensures .0) (c .before .before .is-related .ensures) in
     let this : p (l .s) ≡ true = rw (sym told ∙ c .before .if3 .left) (lets (getD (cells (a .taken)) (l .s) false)) in
     pass v (cells (a .taken)) (a .k) _ _ (allBelow-next p (l .s) (l .inv .let-be) this) (c .next2 .ensures)

@@ -21,12 +21,12 @@ abbrev literal : Chart → ℕ → Literal
 literal c n = literalIn (c .literal n)
 
 abbrev Inv-loop : tie.InvT-loop
-Inv-loop t acts vars k i₀ left₀ i left =
+Inv-loop t acts vars k at i₀ left₀ i left =
     (i + left ≤ view t .literals)
     × (condition (view t) (cells acts) vars k ≡ all (holds (cells acts) vars) (many (literal (view t)) i left))
 
 abbrev μ-loop : tie.MeasureT-loop
-μ-loop t acts vars k i₀ left₀ i left = left
+μ-loop t acts vars k at i₀ left₀ i left = left
 
 loop-holds : tie.Need-loop-holds Inv-loop μ-loop
 unfolding condition literalsOf
@@ -35,8 +35,8 @@ loop-holds c =
     let n = transitionAt (now (s .args .t)) (s .args .k) in
     let behind : n + 3 ≡ n + 2 + 1 = omega arith in
     let inside = s .pre .0 .transition-spans (s .args .k) (s .pre .1) .literals in
-    let first = c .before .transition-word .ensures .0 in
-    let count : c .transition-word2 .result ≡ view (now (s .args .t)) .asks (s .args .k) .count = cc in
+    let first = c .before .transition-word-at .ensures .0 in
+    let count : c .transition-word-at2 .result ≡ view (now (s .args .t)) .asks (s .args .k) .count = cc in
     (omega (arith, inside, first, count), cc)
 
 literal-at-requires : tie.Need-literal-at-requires Inv-loop μ-loop

@@ -1,0 +1,170 @@
+-- `flat_macrostep::pass` meets its contract: before each time the outputs are as they were, and it is the first time, or what is
+-- meant ends well and all words are lent. Assumes nothing.
+use borrow.Author.Needs.{needs}
+use Prim.Native.Nat.{ℕ, _-_}
+use mathlib.Core.Path.{_≡_, refl, sym, ap, _∙_}
+use mathlib.Core.Bool.{true}
+use mathlib.Core.List.{List, _++_}
+use native.Mathlib.Omega.{arith}
+use denote.Ref.{now}
+use lib.ListN.{length, take, drop}
+use lib.Seq.{length-take-le}
+use Rattle.words.proofs.Tests.{by-bool, clash}
+use Rattle.effects.specs.declared.Progress.{Progress}
+use Rattle.effects.specs.Run.{Result, St, macrostep}
+use Rattle.effects.specs.Lent.{roomFor}
+use Rattle.effects.specs.Work.{stopped?}
+use Rattle.flat.specs.View.{flatView}
+use Rattle.flat_meaning.specs.Steps.{flatMachine}
+use Rattle.flat_meaning.proofs.Small.{flat-machine-small, flat-machine-tame}
+use Rattle.macrostep.specs.Ends.{told?, handed, Ends}
+use Rattle.macrostep.proofs.Passes.{kept-enough, Before, untried, tried, before-fits}
+use Rattle.macrostep.proofs.Passed.{told-pass, stop-pass, again-pass}
+use Rattle.flat_macrostep.proofs.pass.Statement.{statement}
+use Rattle.flat_macrostep.proofs.pass.Tie as tie
+
+module _ (state o : List ℕ) (n : Progress) (words vars outs : List ℕ) (meant : Result St) where
+  -- what is told hands back its words and variables
+  told-hands : (k : ℕ) → told? n k ≡ true → Ends (λ w. w) state o n (words ++ vars) outs meant
+      → Ends (λ w. w) state o n (handed (λ w. w) n words vars state) outs meant
+  unfolding told? handed
+  told-hands k h ends = by-bool (stopped? n) (λ e. clash (told? n k) h (rw e refl)) (λ e. rw e ends)
+
+  -- what has stopped hands back the state that was lent
+  stop-hands : stopped? n ≡ true → Ends (λ w. w) state o n state outs meant
+      → Ends (λ w. w) state o n (handed (λ w. w) n words vars state) outs meant
+  unfolding handed
+  stop-hands h ends = rw h ends
+
+abbrev Inv-loop : tie.InvT-loop
+Inv-loop t marks₀ state event outputs₀ next₀ vars₀ kept queue₀ all room first lent₀ marks outputs next vars queue lent =
+    (length marks ≡ length marks₀) × (length next ≡ length next₀) × (length vars ≡ length vars₀) × (length queue ≡ length queue₀)
+    × (outputs ≡ outputs₀)
+    × Before outputs₀ first lent (macrostep (flatView t .events) (roomFor (length outputs₀)) (flatMachine (flatView t)) (event .0)
+    (take (length next₀) state) (drop (length next₀) state))
+
+abbrev μ-loop : tie.MeasureT-loop
+μ-loop t marks₀ state event outputs₀ next₀ vars₀ kept queue₀ all room first lent₀ marks outputs next vars queue lent =
+    length outputs₀ - lent
+
+loop-holds : tie.Need-loop-holds Inv-loop μ-loop
+loop-holds c = (refl, refl, refl, refl, refl, untried refl)
+
+slice-relend-prefix-attempt : tie.Need-slice-relend-prefix-attempt Inv-loop μ-loop
+slice-relend-prefix-attempt c =
+    let l = c .before .before .before .loop in
+    omega (arith, before-fits (c .before .before .before .before .before .before .before .before .before .before .before .before .before .before .before .before .before .before .pre .2) (l .inv .5), ap length (l .inv .4))
+
+slice-aggregate-attempt : tie.Need-slice-aggregate-attempt Inv-loop μ-loop
+slice-aggregate-attempt c =
+    let l = c .before .before .before .before .loop in
+    sym (length-take-le (l .lent) (l .outputs) (omega (arith, before-fits (c .before .before .before .before .before .before .before .before .before .before .before .before .before .before .before .before .before .before .before .pre .2) (l .inv .5), ap length (l .inv .4))))
+
+attempt-requires : tie.Need-attempt-requires Inv-loop μ-loop
+attempt-requires c κs =
+    let pre = c .before .before .before .before .before .before .before .before .before .before .before .before .before .before .before .before .before .before .before .before .pre in
+    let sized = pre .1 in
+    let i = c .before .before .before .before .before .loop .inv in (
+      pre .0,
+      record {
+        bits = omega (arith, sized .bits, i .0);
+        next-long = i .1 ∙ sized .next-long;
+        few = omega (arith, sized .few, i .1);
+        state-long = omega (arith, sized .state-long, i .1, i .2);
+        queue-long = i .3 ∙ sized .queue-long;
+      },
+    )
+
+same-length-2 : tie.Need-same-length-2 Inv-loop μ-loop
+same-length-2 c = c .before .before .before .before .before .outputs .given .1 ∙ ap length (c .before .before .before .before .before .before .before .before .before .before .before .before .before .before .before .before .before .before .loop .inv .4)
+
+returns : tie.Need-returns Inv-loop μ-loop
+returns c =
+    let s = c .before .before .before .before .before .before .before .before .before .before .before .before .before .before .before .before .before .before .before .before .before .before .before .before .before .before .before .before .before .before .before .before .before .args in
+    let pre = c .before .before .before .before .before .before .before .before .before .before .before .before .before .before .before .before .before .before .before .before .before .before .before .before .before .before .before .before .before .before .before .before .before .pre in
+    let l = c .before .before .before .before .before .before .before .before .before .before .before .before .before .before .before .before .before .before .loop in
+    let ran = c .before .before .before .before .before .before .before .before .before .before .before .before .attempt in
+    let room = c .before .before .before .before .before .before .before .before .before .before .before .before .before .before .before .before .before .before .before .before .before .before .before .before .room-of in
+    let f = flatView (now (s .t)) in
+    let told = sym (c .before .is-told .ensures) ∙ c .if1 .taken in
+    told-hands (now (s .state)) (now (s .outputs)) (ran .result) _ _ _ _ (l .lent) told
+    (told-pass (f .events) (flatMachine f) (λ w. w) (now (s .state)) (now (s .outputs)) (s .event .0) (length (now (s .next)))
+    (length (now (s .kept))) (flat-machine-small (pre .0)) (flat-machine-tame (pre .0)) (pre .2) (room .result) (length (l .next)) (l .lent)
+    (l .outputs) _ (l .queue) (room .ensures .0) (l .inv .1) (l .inv .4) refl (l .inv .3 ∙ pre .1 .queue-long) (l .inv .5)
+    (ran .result) _ _ _ _ (ran .ensures) told)
+
+slice-relend-prefix-load : tie.Need-slice-relend-prefix-load Inv-loop μ-loop
+slice-relend-prefix-load c = omega (arith, c .before .before .before .before .before .before .before .before .before .before .before .before .before .before .before .before .before .before .before .before .before .before .before .before .before .before .before .before .before .before .before .before .before .pre .2, c .before .before .before .before .before .outputs .given .1, ap length (c .before .before .before .before .before .before .before .before .before .before .before .before .before .before .before .before .before .before .loop .inv .4))
+
+slice-aggregate-load : tie.Need-slice-aggregate-load Inv-loop μ-loop
+slice-aggregate-load c =
+    sym (length-take-le (length (now (c .before .before .before .before .before .before .before .before .before .before .before .before .before .before .before .before .before .before .before .before .before .before .before .before .before .before .before .before .before .before .before .before .before .before .args .kept))) _ (omega (arith, c .before .before .before .before .before .before .before .before .before .before .before .before .before .before .before .before .before .before .before .before .before .before .before .before .before .before .before .before .before .before .before .before .before .before .pre .2, c .before .before .before .before .before .before .outputs .given .1, ap length (c .before .before .before .before .before .before .before .before .before .before .before .before .before .before .before .before .before .before .before .loop .inv .4))))
+
+load-requires-2 : tie.Need-load-requires-2 Inv-loop μ-loop
+load-requires-2 c κs = (omega arith, kept-enough (length (now (c .before .before .before .before .before .before .before .before .before .before .before .before .before .before .before .before .before .before .before .before .before .before .before .before .before .before .before .before .before .before .before .before .before .before .before .args .kept))) _ _ (c .before .before .before .before .before .before .before .before .before .before .before .before .before .before .before .before .before .before .before .before .before .before .kept .given))
+
+same-length-8 : tie.Need-same-length-8 Inv-loop μ-loop
+same-length-8 c = c .before .before .before .outputs2 .given .1 ∙ c .before .before .before .before .before .before .before .before .before .before .before .before .outputs .given .1 ∙ ap length (c .before .before .before .before .before .before .before .before .before .before .before .before .before .before .before .before .before .before .before .before .before .before .before .before .before .loop .inv .4)
+
+returns-2 : tie.Need-returns-2 Inv-loop μ-loop
+returns-2 c =
+    let s = c .before .before .before .before .before .before .before .before .before .before .before .before .before .before .before .before .before .before .before .before .before .before .before .before .before .before .before .before .before .before .before .before .before .before .before .before .before .before .before .before .args in
+    let pre = c .before .before .before .before .before .before .before .before .before .before .before .before .before .before .before .before .before .before .before .before .before .before .before .before .before .before .before .before .before .before .before .before .before .before .before .before .before .before .before .before .pre in
+    let l = c .before .before .before .before .before .before .before .before .before .before .before .before .before .before .before .before .before .before .before .before .before .before .before .before .before .loop in
+    let ran = c .before .before .before .before .before .before .before .before .before .before .before .before .before .before .before .before .before .before .before .attempt in
+    let room = c .before .before .before .before .before .before .before .before .before .before .before .before .before .before .before .before .before .before .before .before .before .before .before .before .before .before .before .before .before .before .before .room-of in
+    let f = flatView (now (s .t)) in
+    let stops = sym (c .before .is-stopped .ensures) ∙ c .if2 .taken in
+    stop-hands (now (s .state)) (now (s .outputs)) (ran .result) _ _ _ _ stops
+    (stop-pass (f .events) (flatMachine f) (λ w. w) (now (s .state)) (now (s .outputs)) (s .event .0) (length (now (s .next)))
+    (length (now (s .kept))) (flat-machine-small (pre .0)) (flat-machine-tame (pre .0)) (pre .2) (room .result) (length (l .next)) (l .lent)
+    (l .outputs) _ (l .queue) (room .ensures .0) (l .inv .1) (l .inv .4) refl (l .inv .3 ∙ pre .1 .queue-long) (l .inv .5)
+    (ran .result) _ _ _ _ (ran .ensures) _ _ (c .before .before .before .before .before .before .before .before .before .before .before .before .outputs .given .0) (c .before .before .before .before .before .before .before .before .before .before .before .before .before .before .before .before .before .before .before .before .before .before .before .before .before .before .before .before .load .ensures) (c .before .before .before .before .load2 .ensures) stops)
+
+loop-less : tie.Need-loop-less Inv-loop μ-loop
+loop-less c =
+    let s = c .before .before .before .before .before .before .before .before .before .before .before .before .before .before .before .before .before .before .before .before .before .before .before .before .before .before .before .before .before .before .before .before .before .before .before .before .before .before .before .before .args in
+    let pre = c .before .before .before .before .before .before .before .before .before .before .before .before .before .before .before .before .before .before .before .before .before .before .before .before .before .before .before .before .before .before .before .before .before .before .before .before .before .before .before .before .pre in
+    let l = c .before .before .before .before .before .before .before .before .before .before .before .before .before .before .before .before .before .before .before .before .before .before .before .before .before .loop in
+    let ran = c .before .before .before .before .before .before .before .before .before .before .before .before .before .before .before .before .before .before .before .attempt in
+    let room = c .before .before .before .before .before .before .before .before .before .before .before .before .before .before .before .before .before .before .before .before .before .before .before .before .before .before .before .before .before .before .before .room-of in
+    let f = flatView (now (s .t)) in
+    let again =
+    again-pass (f .events) (flatMachine f) (λ w. w) (now (s .state)) (now (s .outputs)) (s .event .0) (length (now (s .next)))
+    (length (now (s .kept))) (flat-machine-small (pre .0)) (flat-machine-tame (pre .0)) (pre .2) (room .result) (length (l .next)) (l .lent)
+    (l .outputs) _ (l .queue) (room .ensures .0) (l .inv .1) (l .inv .4) refl (l .inv .3 ∙ pre .1 .queue-long) (l .inv .5)
+    (ran .result) _ _ _ _ (ran .ensures) _ _ (c .before .before .before .before .before .before .before .before .before .before .before .before .outputs .given .0) (c .before .before .before .before .before .before .before .before .before .before .before .before .before .before .before .before .before .before .before .before .before .before .before .before .before .before .before .before .load .ensures) (c .before .before .before .before .load2 .ensures)
+    (sym (c .before .is-stopped .ensures) ∙ c .if2 .left) (sym (c .before .before .before .before .before .before .before .before .is-told .ensures) ∙ c .before .before .before .before .before .before .before .if1 .left) in
+    omega (arith, again .2)
+
+loop-again : tie.Need-loop-again Inv-loop μ-loop
+loop-again c =
+    let s = c .before .before .before .before .before .before .before .before .before .before .before .before .before .before .before .before .before .before .before .before .before .before .before .before .before .before .before .before .before .before .before .before .before .before .before .before .before .before .before .before .args in
+    let pre = c .before .before .before .before .before .before .before .before .before .before .before .before .before .before .before .before .before .before .before .before .before .before .before .before .before .before .before .before .before .before .before .before .before .before .before .before .before .before .before .before .pre in
+    let l = c .before .before .before .before .before .before .before .before .before .before .before .before .before .before .before .before .before .before .before .before .before .before .before .before .before .loop in
+    let ran = c .before .before .before .before .before .before .before .before .before .before .before .before .before .before .before .before .before .before .before .attempt in
+    let room = c .before .before .before .before .before .before .before .before .before .before .before .before .before .before .before .before .before .before .before .before .before .before .before .before .before .before .before .before .before .before .before .room-of in
+    let f = flatView (now (s .t)) in
+    let again =
+    again-pass (f .events) (flatMachine f) (λ w. w) (now (s .state)) (now (s .outputs)) (s .event .0) (length (now (s .next)))
+    (length (now (s .kept))) (flat-machine-small (pre .0)) (flat-machine-tame (pre .0)) (pre .2) (room .result) (length (l .next)) (l .lent)
+    (l .outputs) _ (l .queue) (room .ensures .0) (l .inv .1) (l .inv .4) refl (l .inv .3 ∙ pre .1 .queue-long) (l .inv .5)
+    (ran .result) _ _ _ _ (ran .ensures) _ _ (c .before .before .before .before .before .before .before .before .before .before .before .before .outputs .given .0) (c .before .before .before .before .before .before .before .before .before .before .before .before .before .before .before .before .before .before .before .before .before .before .before .before .before .before .before .before .load .ensures) (c .before .before .before .before .load2 .ensures)
+    (sym (c .before .is-stopped .ensures) ∙ c .if2 .left) (sym (c .before .before .before .before .before .before .before .before .is-told .ensures) ∙ c .before .before .before .before .before .before .before .if1 .left) in (
+      c .before .before .before .before .before .before .before .before .before .before .before .before .before .before .before .before .before .before .marks .given ∙ l .inv .0,
+      c .before .before .before .before .before .before .before .before .before .before .before .before .before .before .before .before .next .given ∙ l .inv .1,
+      c .before .before .before .before .before .before .before .before .before .before .before .before .before .before .vars .given ∙ l .inv .2,
+      c .before .before .before .before .before .before .before .before .before .before .queue .given ∙ l .inv .3,
+      again .1,
+      tried refl (again .0),
+    )
+
+pub pass-spec : {M : Type 1} → statement M
+pass-spec =
+    tie.close
+    (tie.spec
+    Inv-loop μ-loop (λ c κs. search needs) (λ c κs. search needs) loop-holds slice-relend-prefix-attempt slice-aggregate-attempt
+    attempt-requires (λ c κs. search needs) (λ c. search needs) same-length-2 (λ c. search needs) (λ c. search needs)
+    (λ c. search needs) (λ c. search needs) returns slice-relend-prefix-load slice-aggregate-load load-requires-2
+    (λ c κs. search needs) (λ c. search needs) same-length-8 (λ c. search needs) (λ c. search needs) (λ c. search needs)
+    (λ c. search needs) returns-2 loop-less loop-again)

@@ -1,0 +1,2 @@
+-- `Took`: the transitions that a microstep takes.
+pub mod Took
