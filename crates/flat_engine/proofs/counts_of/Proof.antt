@@ -1,11 +1,10 @@
 -- `flat_engine::counts_of` meets its contract: each count is in its place. Assumes nothing.
 use borrow.Author.Needs.{needs}
-use mathlib.Core.Path.{refl}
 use Rattle.flat_engine.proofs.counts_of.Statement.{statement}
 use Rattle.flat_engine.proofs.counts_of.Tie as tie
 
 returns : tie.Need-returns
-returns c = rw (c .before .before .micro-of .ensures, c .before .taken-of .ensures, c .outs-of .ensures .0) refl
+returns c = cc
 
 pub counts-of-spec : {M : Type 1} → statement M
 counts-of-spec = tie.close (tie.spec
