@@ -3,9 +3,9 @@
 use Prim.Native.Nat.{ℕ}
 use Rattle.table.specs.declared.Verdict.{Verdict}
 use Rattle.table.specs.declared.Verdict.the-variants.{Done as accepting, Refused as refusing}
-use Rattle.engine.specs.declared.Counts.{Counts}
-use Rattle.engine.specs.declared.ChartRun.{ChartRun}
-use Rattle.engine.specs.declared.ChartRun.the-variants.{Done as ran, Refused as unrun}
+use Rattle.chart_engine.specs.declared.Counts.{Counts}
+use Rattle.chart_engine.specs.declared.ChartRun.{ChartRun}
+use Rattle.chart_engine.specs.declared.ChartRun.the-variants.{Done as ran, Refused as unrun}
 use Rattle.flat_engine.specs.declared.FlatCounts.{FlatCounts}
 use Rattle.flat_engine.specs.declared.FlatRun.{FlatRun}
 use Rattle.flat_engine.specs.declared.FlatRun.the-variants.{Done as flat-ran, Refused as flat-unrun}
@@ -35,6 +35,6 @@ abbrev pub flattenVerdictOf : Flattening → Verdict
 flattenVerdictOf (flattened n) = accepting
 flattenVerdictOf (unflattened r) = refusing r
 
-abbrev pub wordsOf : Flattening → ℕ
-wordsOf (flattened n) = n
-wordsOf (unflattened r) = 0
+abbrev pub tableWordsOf : Flattening → ℕ
+tableWordsOf (flattened n) = n
+tableWordsOf (unflattened r) = 0

@@ -3,8 +3,8 @@
 // those of `told` in table/specs/Answers.antt.
 ghost use mathlib.Core.Path.{_≡_};
 ghost use Rattle.table.specs.Answers.{refusalTold, told};
-ghost use Rattle.answers.specs.Parts.{verdictOf, countsOf, flatVerdictOf, flatCountsOf, flattenVerdictOf, wordsOf};
-use engine::ChartRun;
+ghost use Rattle.answers.specs.Parts.{verdictOf, countsOf, flatVerdictOf, flatCountsOf, flattenVerdictOf, tableWordsOf};
+use chart_engine::ChartRun;
 use flat_engine::FlatCounts;
 use flat_engine::FlatRun;
 use flatten::Flattening;
@@ -82,12 +82,12 @@ pub fn verdict_of(run: ChartRun) -> Verdict
 }
 
 // Its counts: those of a refusal are 0.
-pub fn counts_of(run: ChartRun) -> engine::Counts
+pub fn counts_of(run: ChartRun) -> chart_engine::Counts
     ensures { λ r. ⌜ r ≡ countsOf run ⌝ }
 {
     match run {
         ChartRun::Done(counts) => counts,
-        ChartRun::Refused(_) => engine::Counts {
+        ChartRun::Refused(_) => chart_engine::Counts {
             microsteps: 0,
             taken: 0,
             left: 0,
@@ -132,8 +132,8 @@ pub fn flatten_verdict_of(flattening: Flattening) -> Verdict
 }
 
 // How many words of the room are the flat table: none where the flattening is refused.
-pub fn words_of(flattening: Flattening) -> u32
-    ensures { λ r. ⌜ r ≡ wordsOf flattening ⌝ }
+pub fn table_words_of(flattening: Flattening) -> u32
+    ensures { λ r. ⌜ r ≡ tableWordsOf flattening ⌝ }
 {
     match flattening {
         Flattening::Done(words) => words,

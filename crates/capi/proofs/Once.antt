@@ -10,7 +10,7 @@ use Rattle.table.specs.declared.Refusal.{Refusal}
 use Rattle.flatten.specs.Wrote.{flattenTold}
 use Rattle.flatten.specs.declared.Flattening.{Flattening}
 use Rattle.flatten.specs.declared.Flattening.the-variants.{Done, Refused}
-use Rattle.answers.specs.Parts.{flattenVerdictOf, wordsOf}
+use Rattle.answers.specs.Parts.{flattenVerdictOf, tableWordsOf}
 use Rattle.capi.specs.declared.Said.{Said}
 use Rattle.capi.specs.Said.{flattenSaid, reportOf, reported}
 use Rattle.capi.specs.Calls.{Answered}
@@ -57,8 +57,8 @@ module _ {P Q : Flattening → Type 0} {before : List ℕ} {m n : ℕ} {x y : Li
   pub flatten-report : set x 7 0 ≡ set y 7 0
   flatten-report =
       ap (λ (l : List ℕ). set l 7 0) (p .written)
-      ∙ all-but-7 (told (flattenVerdictOf (p .answer)) .1) (wordsOf (p .answer)) (wordsOf (q .answer)) before
-      ∙ ap (λ (t : ℕ × ℕ). set (reported (reportOf (place-of t (wordsOf (q .answer)))) before) 7 0) said-same
+      ∙ all-but-7 (told (flattenVerdictOf (p .answer)) .1) (tableWordsOf (p .answer)) (tableWordsOf (q .answer)) before
+      ∙ ap (λ (t : ℕ × ℕ). set (reported (reportOf (place-of t (tableWordsOf (q .answer)))) before) 7 0) said-same
       ∙ ap (λ (l : List ℕ). set l 7 0) (sym (q .written))
 
 -- a flattening whose number is not 0 is refused

@@ -4,7 +4,7 @@ use Prim.Native.Nat.{ℕ}
 use mathlib.Core.Path.{_≡_}
 use mathlib.Core.List.{List}
 use Rattle.table.specs.declared.Verdict.{Verdict}
-use Rattle.engine.specs.declared.ChartRun.{ChartRun}
+use Rattle.chart_engine.specs.declared.ChartRun.{ChartRun}
 use Rattle.flat_engine.specs.declared.FlatRun.{FlatRun}
 use Rattle.flatten.specs.declared.Flattening.{Flattening}
 use Rattle.olivrescum.specs.Promises.{ChartChecked, ChartStarted, ChartRan, ChartFlattened, FlatTableChecked, FlatTableStarted, FlatTableRan}

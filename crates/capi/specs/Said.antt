@@ -1,14 +1,14 @@
 -- What an answer says in numbers. 01, What a call can say, gives its number and place; what is counted is 01's "Counts
 -- reported", the rules fired of a flat run, the outputs as pairs, and the words of the flat table written. What a call does
--- not count is 0, and "a refusal reports counts 0", which `countsOf`, `flatCountsOf` and `wordsOf` say.
+-- not count is 0, and "a refusal reports counts 0", which `countsOf`, `flatCountsOf` and `tableWordsOf` say.
 use Prim.Native.Nat.{ℕ}
 use mathlib.Core.List.{List, [], _∷_}
 use Rattle.table.specs.Answers.{told}
 use Rattle.table.specs.declared.Verdict.{Verdict}
-use Rattle.engine.specs.declared.ChartRun.{ChartRun}
+use Rattle.chart_engine.specs.declared.ChartRun.{ChartRun}
 use Rattle.flat_engine.specs.declared.FlatRun.{FlatRun}
 use Rattle.flatten.specs.declared.Flattening.{Flattening}
-use Rattle.answers.specs.Parts.{verdictOf, countsOf, flatVerdictOf, flatCountsOf, flattenVerdictOf, wordsOf}
+use Rattle.answers.specs.Parts.{verdictOf, countsOf, flatVerdictOf, flatCountsOf, flattenVerdictOf, tableWordsOf}
 use Rattle.capi.specs.declared.Said.{Said}
 
 -- a check or a start
@@ -64,7 +64,7 @@ flattenSaid f = record {
   entered = 0;
   fired = 0;
   outputs = 0;
-  words = wordsOf f;
+  words = tableWordsOf f;
 }
 
 -- The eight words of a report.

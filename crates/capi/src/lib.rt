@@ -9,7 +9,7 @@ ghost use lib.ListN.{set};
 ghost use Rattle.capi.specs.Said.{verdictSaid, chartSaid, flatSaid, flattenSaid, reportOf, reported};
 ghost use Rattle.capi.specs.Calls.{ChartCheckedForC, ChartStartedForC, ChartRanForC, ChartFlattenedForC};
 ghost use Rattle.capi.specs.Calls.{FlatCheckedForC, FlatStartedForC, FlatRanForC};
-use engine::ChartRun;
+use chart_engine::ChartRun;
 use flat_engine::FlatRun;
 use flatten::Flattening;
 use table::Verdict;
@@ -155,7 +155,7 @@ fn flatten_said(flattening: Flattening) -> Said
     ensures { λ r. ⌜ r ≡ flattenSaid flattening ⌝ }
 {
     let mut said = verdict_said(answers::flatten_verdict_of(flattening));
-    said.words = answers::words_of(flattening);
+    said.words = answers::table_words_of(flattening);
     said
 }
 

@@ -3,7 +3,8 @@
 use Prim.Native.Nat.{ℕ, _+_, _*_, _<_, _≤_}
 use mathlib.Core.List.{List}
 use lib.ListN.{length}
-use Rattle.chart.specs.View.{at, view, stateAt, transitionAt}
+use Rattle.table.specs.Layout.{at}
+use Rattle.chart.specs.View.{view, stateAt, transitionAt}
 
 pub record Readable (t : List ℕ) : Type 0 where
   pub header : 16 ≤ length t

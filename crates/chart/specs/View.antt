@@ -4,11 +4,11 @@ use mathlib.Core.Path.{_≡_}
 use mathlib.Core.Logic.{_≢_}
 use mathlib.Core.Bool.{Bool, _&&_}
 use mathlib.Core.List.{List}
-use lib.ListN.{getD}
 use lib.Dec.{eqb, ltb}
 use Rattle.table.specs.Triple.{Triple, tripleAt}
 use Rattle.table.specs.Span.{Span, spanAt}
-use Rattle.table.specs.declared.Counts.{Counts}
+use Rattle.table.specs.Layout.{at}
+use Rattle.table.specs.declared.ItemCounts.{ItemCounts}
 
 -- A chart: its counts, and its records by their numbers. Whatever a chart means is said over this.
 pub record Chart : Type 0 where
@@ -37,10 +37,6 @@ pub record Chart : Type 0 where
   pub target : ℕ → ℕ
   pub literal : ℕ → Triple
   pub item : ℕ → Triple
-
--- Word i of a table.
-abbrev pub at : List ℕ → ℕ → ℕ
-at t i = getD t i 0
 
 -- Where state k's words begin, and transition k's: header words 11 to 15 are the offsets of the sections.
 abbrev pub stateAt : List ℕ → ℕ → ℕ
@@ -78,8 +74,8 @@ view t = record {
 }
 
 -- The counts that items are judged by.
-abbrev pub countsOf : Chart → Counts
-countsOf c = record { signals = c .signals; outputs = c .outputs; variables = c .variables }
+abbrev pub itemCounts : Chart → ItemCounts
+itemCounts c = record { signals = c .signals; outputs = c .outputs; variables = c .variables }
 
 -- 01, State: "kind (0 or-state, 1 or-state with history, 2 and-state)".
 abbrev pub IsAnd : Chart → ℕ → Type 0

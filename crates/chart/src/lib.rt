@@ -4,7 +4,8 @@
 ghost use mathlib.Core.Path.{_≡_};
 ghost use Prim.Native.Nat.{_+_, _*_, _<_};
 ghost use lib.ListN.{length};
-ghost use Rattle.chart.specs.View.{at, view, isAnd, andState?, childOf?, stateAt, transitionAt};
+ghost use Rattle.table.specs.Layout.{at};
+ghost use Rattle.chart.specs.View.{view, isAnd, andState?, childOf?, stateAt, transitionAt};
 ghost use Rattle.chart.specs.Readable.{Readable};
 ghost use Rattle.chart.specs.Literals.{literalOf, literalIn};
 ghost use Rattle.chart.specs.Tree.{within, meeting, apart};

@@ -4,7 +4,8 @@ use mathlib.Core.Path.{_≡_, sym, ap}
 use mathlib.Core.Bool.{and-true}
 use mathlib.Core.List.{List}
 use native.Mathlib.Omega.{arith}
-use Rattle.chart.specs.View.{Chart, at, transitionAt, view, andState?}
+use Rattle.table.specs.Layout.{at}
+use Rattle.chart.specs.View.{Chart, transitionAt, view, andState?}
 use Rattle.chart_rules.specs.Rules.{aim}
 use Rattle.chart_rules.specs.Tests.{apartFrom?, goodTarget?, goodTargets?}
 

@@ -6,7 +6,7 @@ use native.Mathlib.Omega.{arith}
 use lib.Dec.{ltb}
 use Rattle.words.specs.Logic.{Iff}
 use Rattle.words.proofs.Tests.{by-bool, ltb-lt, ltb-ge}
-use Rattle.table.specs.Check.{ruleAt, Kept}
+use Rattle.table.specs.Check.{ruleNumbered, Kept}
 use Rattle.table.proofs.Check.{AllKept, none, also, each, accepted, accepting}
 use Rattle.chart.specs.View.{view}
 use Rattle.chart_rules.specs.Rules.{GoodPlace, ChartRules}
@@ -18,7 +18,7 @@ module _ (t : List ℕ) where
   rule : RulesNumbered t
   rule = numbered t
 
-  kept-rules : ((k : ℕ) → k < 9 → Kept (ruleAt (chartRules t) k)) → ChartRules t
+  kept-rules : ((k : ℕ) → k < 9 → Kept (ruleNumbered (chartRules t) k)) → ChartRules t
   kept-rules kept =
       let counts = rule .counts .0 (kept 1 (omega arith) 0 (omega arith)) in
       let places : (k : ℕ) → k < view t .states → GoodPlace (view t) k = λ k h. rule .tree k h .0 (kept 3 (omega arith) k h) .0 in

@@ -6,7 +6,7 @@ use mathlib.Core.Bool.{true}
 use mathlib.Core.List.{List}
 use lib.ListN.{length}
 use Rattle.words.specs.Logic.{Iff}
-use Rattle.table.specs.Check.{ruleAt}
+use Rattle.table.specs.Check.{ruleNumbered}
 use Rattle.chart.specs.View.{view}
 use Rattle.chart_head.specs.Rules.{GoodForm, GoodCounts, GoodLayout}
 use Rattle.chart_rules.specs.Rules.{GoodPlace, GoodBody, GoodStateSpans, GoodTransitionSpans}
@@ -15,10 +15,10 @@ use Rattle.chart_check.specs.Answer.{chartRules}
 
 -- Place p keeps rule k; how many places rule k has.
 abbrev pub Keeps : List ℕ → ℕ → ℕ → Type 0
-Keeps t k p = ruleAt (chartRules t) k .keeps p ≡ true
+Keeps t k p = ruleNumbered (chartRules t) k .keeps p ≡ true
 
 abbrev pub placesOf : List ℕ → ℕ → ℕ
-placesOf t k = ruleAt (chartRules t) k .places
+placesOf t k = ruleNumbered (chartRules t) k .places
 
 -- At each of its places a rule is kept just where what 01 asks there holds.
 pub record RulesNumbered (t : List ℕ) : Type 0 where

@@ -7,7 +7,7 @@ ghost use Prim.Native.Nat.{_+_, _<_, _≤_};
 ghost use Rattle.words.specs.Loops.{allBelow};
 ghost use Rattle.table.specs.Answers.{told};
 ghost use Rattle.table.specs.Span.{Inside};
-ghost use Rattle.table.specs.Check.{ruleAt, lowestBad, KeptBefore};
+ghost use Rattle.table.specs.Check.{ruleNumbered, lowestBad, KeptBefore};
 ghost use Rattle.chart.specs.View.{view};
 ghost use Rattle.chart.specs.Readable.{Readable};
 ghost use Rattle.chart_rules.specs.Rules.{aim};
@@ -83,8 +83,8 @@ fn good_targets(t: &[u16], k: usize) -> bool
 
 // Whether place i keeps rule k, counted from 0, where the rules before it are kept.
 fn keeps(t: &[u16], k: usize, i: usize) -> bool
-    requires { ⌜ (k < 9) × (i < ruleAt (chartRules (now t)) k .places) × KeptBefore (chartRules (now t)) k ⌝ }
-    ensures { λ r. ⌜ r ≡ ruleAt (chartRules (now (t .entry))) k .keeps i ⌝ }
+    requires { ⌜ (k < 9) × (i < ruleNumbered (chartRules (now t)) k .places) × KeptBefore (chartRules (now t)) k ⌝ }
+    ensures { λ r. ⌜ r ≡ ruleNumbered (chartRules (now (t .entry))) k .keeps i ⌝ }
 {
     match k {
         0 => good_form(t),
@@ -102,7 +102,7 @@ fn keeps(t: &[u16], k: usize, i: usize) -> bool
 // How many places rule k judges.
 fn places_of(t: &[u16], k: usize) -> usize
     requires { ⌜ k < 9 ⌝ }
-    ensures is { λ r. ⌜ r ≡ ruleAt (chartRules (now (t .entry))) k .places ⌝ }
+    ensures is { λ r. ⌜ r ≡ ruleNumbered (chartRules (now (t .entry))) k .places ⌝ }
     ensures small { λ r. ⌜ r < 200000 ⌝ }
 {
     match k {
@@ -120,8 +120,8 @@ fn places_of(t: &[u16], k: usize) -> usize
 
 // The lowest place that breaks rule k, where the rules before it are kept; all its places, where none does.
 fn lowest_bad(t: &[u16], k: usize, places: usize) -> usize
-    requires { ⌜ (k < 9) × (places < 200000) × (places ≡ ruleAt (chartRules (now t)) k .places) × KeptBefore (chartRules (now t)) k ⌝ }
-    ensures is { λ r. ⌜ r ≡ lowestBad (ruleAt (chartRules (now (t .entry))) k) ⌝ }
+    requires { ⌜ (k < 9) × (places < 200000) × (places ≡ ruleNumbered (chartRules (now t)) k .places) × KeptBefore (chartRules (now t)) k ⌝ }
+    ensures is { λ r. ⌜ r ≡ lowestBad (ruleNumbered (chartRules (now (t .entry))) k) ⌝ }
     ensures small { λ r. ⌜ r ≤ places ⌝ }
 {
     let mut i = 0;

@@ -4,7 +4,8 @@ use mathlib.Core.List.{List}
 use lib.ListN.{length}
 use Rattle.words.proofs.Tells.{Tells, eq, le, said, _and_}
 use Rattle.table.proofs.Headers.{between, follow}
-use Rattle.chart.specs.View.{Chart, at}
+use Rattle.table.specs.Layout.{at}
+use Rattle.chart.specs.View.{Chart}
 use Rattle.chart_head.specs.Rules.{GoodForm, GoodCounts, GoodLayout}
 use Rattle.chart_head.specs.Tests.{goodForm?, goodCounts?, goodLayout?}
 

@@ -3,8 +3,8 @@ use Prim.Native.Nat.{ℕ, _≤_}
 use mathlib.Core.Path.{_≡_}
 use mathlib.Core.List.{List}
 use lib.ListN.{length}
-use Rattle.table.specs.Layout.{Between, Follows}
-use Rattle.chart.specs.View.{Chart, at}
+use Rattle.table.specs.Layout.{Between, Follows, at}
+use Rattle.chart.specs.View.{Chart}
 
 -- Rule 1 (its opposite in 01: "shorter than its header, wrong form, total not the slice's length").
 pub record GoodForm (t : List ℕ) : Type 0 where

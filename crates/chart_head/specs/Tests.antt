@@ -5,8 +5,8 @@ use mathlib.Core.List.{List}
 use lib.ListN.{length}
 use lib.Dec.{eqb, leb}
 use Rattle.words.specs.Loops.{between?}
-use Rattle.table.specs.Layout.{follows?}
-use Rattle.chart.specs.View.{Chart, at}
+use Rattle.table.specs.Layout.{follows?, at}
+use Rattle.chart.specs.View.{Chart}
 
 -- rule 1
 unfoldable pub goodForm? : List ℕ → Bool

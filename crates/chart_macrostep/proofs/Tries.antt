@@ -9,11 +9,11 @@ use lib.Seq.{length-take-le, take-all, take-at, take-append-le}
 use Rattle.effects.specs.Work.{Going, going, fresh, turns}
 use Rattle.effects.specs.declared.Progress.{Progress}
 use Rattle.chart.specs.View.{Chart, view}
-use Rattle.meaning.specs.State.{orStates, stateLength}
-use Rattle.meaning.specs.Steps.{chartMachine, rest}
-use Rattle.meaning.proofs.Rest.{rest-length}
+use Rattle.chart_meaning.specs.State.{orStates, stateLength}
+use Rattle.chart_meaning.specs.Steps.{chartMachine, rest}
+use Rattle.chart_meaning.proofs.Rest.{rest-length}
 use Rattle.macrostep.specs.Ends.{told?}
-use Rattle.chart_macrostep.specs.Tried.{Lent, after, Tried}
+use Rattle.chart_macrostep.specs.Tried.{Lent, afterTurns, Tried}
 
 -- a lent state has its words, and then the variables
 pub lent-long : {t : List ℕ} {ors : List Bool} {words : ℕ} {state : List ℕ} → Lent t ors words state
@@ -34,13 +34,13 @@ filled-front n to from part a b e =
     take-at part (drop n to) n (ap length is ∙ length-take-le n from b) ∙ is
 
 -- The scratch slices are filled from the state, and the macrostep came to n, with these words, variables, outputs and queue.
-module _ (c : Chart) (room e words v : ℕ) (state outs queue : List ℕ) (number : words ≡ orStates c) (long : length state ≡ words + v)
+module _ (c : Chart) (pairs e words v : ℕ) (state outs queue : List ℕ) (number : words ≡ orStates c) (long : length state ≡ words + v)
     (next vars part behind : List ℕ) (wide : words ≤ length next) (wide-vars : v ≤ length vars)
     (loads : part ≡ take (length (take words next)) state) (loads-behind : behind ≡ take (length (take v vars)) (drop words state))
     (m n : Progress) (next′ vars′ outs′ queue′ : List ℕ) (begins : m ≡ fresh)
-    (ran : going n next′ vars′ outs′ queue′ ≡ turns 64 (c .events) room (chartMachine c) e
+    (ran : going n next′ vars′ outs′ queue′ ≡ turns 64 (c .events) pairs (chartMachine c) e
     (going m (take words (part ++ drop words next)) (take v (behind ++ drop v vars)) outs queue)) where
-  came : going n next′ vars′ outs′ queue′ ≡ after c room e state outs queue
+  came : going n next′ vars′ outs′ queue′ ≡ afterTurns c pairs e state outs queue
   came =
       let few : length (drop words state) ≡ v = omega (arith, length-drop words state) in
       let front : take words (part ++ drop words next) ≡ take (orStates c) state =
@@ -51,7 +51,7 @@ module _ (c : Chart) (room e words v : ℕ) (state outs queue : List ℕ) (numbe
       ran ∙ rw (begins, front, back) refl
 
   -- it is not told: the state is as it was
-  pub untold-tried : told? n (length outs) ≡ false → Tried c room e state outs queue n state outs′
+  pub untold-tried : told? n (length outs) ≡ false → Tried c pairs e state outs queue n state outs′
   untold-tried h = record {
     progress = ap (λ (g : Going). g .does .n) came;
     outs-are = ap (λ (g : Going). g .does .outs) came;
@@ -61,7 +61,7 @@ module _ (c : Chart) (room e words v : ℕ) (state outs queue : List ℕ) (numbe
   -- it is told: its words at rest are laid into the front of the state, and its variables stored behind
   pub told-tried : told? n (length outs) ≡ true → length next′ ≡ words → length vars′ ≡ v → (x y laid stored : List ℕ)
       → laid ≡ rest c (take words (next′ ++ x)) ++ drop (orStates c) (take words state) → length laid ≡ words
-      → stored ≡ take words (laid ++ drop words state) ++ take v (vars′ ++ y) → Tried c room e state outs queue n stored outs′
+      → stored ≡ take words (laid ++ drop words state) ++ take v (vars′ ++ y) → Tried c pairs e state outs queue n stored outs′
   told-tried h many many-vars x y laid stored lays laid-long stores =
       let rests : take words laid ≡ rest c next′ =
       ap (take words) lays ∙ take-at (rest c (take words (next′ ++ x))) _ words (rest-length c _ ∙ sym number)

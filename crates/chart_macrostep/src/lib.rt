@@ -3,13 +3,13 @@ ghost use mathlib.Core.Path.{_≡_};
 ghost use Prim.Native.Nat.{_≤_};
 ghost use lib.ListN.{length, take, drop};
 ghost use Rattle.effects.specs.Run.{macrostep};
-ghost use Rattle.effects.specs.Lent.{roomFor, zeros};
+ghost use Rattle.effects.specs.Lent.{pairsFor, zeros};
 ghost use Rattle.effects.specs.Work.{going, turns};
 ghost use Rattle.chart.specs.View.{view};
 ghost use Rattle.chart_rules.specs.Rules.{ChartRules};
 ghost use Rattle.states.specs.Cells.{cells};
-ghost use Rattle.active.specs.Ors.{Ors};
-ghost use Rattle.meaning.specs.Steps.{chartMachine, rest};
+ghost use Rattle.chart_active.specs.Ors.{Ors};
+ghost use Rattle.chart_meaning.specs.Steps.{chartMachine, rest};
 ghost use Rattle.macrostep.specs.Ends.{Ends};
 ghost use Rattle.chart_macrostep.specs.Tried.{Lent, Tried};
 use effects::Progress;
@@ -23,7 +23,7 @@ fn go(
     t: &[u16],
     ors: StateSet,
     event: Trigger,
-    room: usize,
+    pairs: usize,
     next: &mut [u16],
     vars: &mut [u16],
     outs: &mut [u16],
@@ -31,14 +31,14 @@ fn go(
     n: Progress,
 ) -> Progress
     requires { ⌜ ChartRules (now t) × Ors (view (now t)) (cells ors) ⌝ }
-    ensures { λ r. ⌜ going r (now (next .exit)) (now (vars .exit)) (now (outs .exit)) (now (queue .exit)) ≡ turns 64 (view (now (t .entry)) .events) room (chartMachine (view (now (t .entry)))) (event .0) (going n (now (next .entry)) (now (vars .entry)) (now (outs .entry)) (now (queue .entry))) ⌝ }
+    ensures { λ r. ⌜ going r (now (next .exit)) (now (vars .exit)) (now (outs .exit)) (now (queue .exit)) ≡ turns 64 (view (now (t .entry)) .events) pairs (chartMachine (view (now (t .entry)))) (event .0) (going n (now (next .entry)) (now (vars .entry)) (now (outs .entry)) (now (queue .entry))) ⌝ }
 {
     let events = words::word_in(t, chart::EVENTS);
     let mut m = n;
     let mut e = event;
     let mut left = 64u32;
     while 0 < left {
-        m = microstep::run(t, ors, e, room, next, vars, outs, queue, m);
+        m = chart_microstep::run(t, ors, e, pairs, next, vars, outs, queue, m);
         m = effects::count_micro(m);
         if effects::has_ended(m) {
             return m;
@@ -58,14 +58,14 @@ fn attempt_on(
     words: usize,
     state: &mut [u16],
     event: Trigger,
-    room: usize,
+    pairs: usize,
     next: &mut [u16],
     vars: &mut [u16],
     outs: &mut [u16],
     queue: &mut [u8],
 ) -> Progress
     requires { ⌜ Lent (now t) (cells ors) words (now state) × (length (now next) ≡ 24) × (length (now vars) ≡ 16) ⌝ }
-    ensures { λ r. ⌜ Tried (view (now (t .entry))) room (event .0) (now (state .entry)) (now (outs .entry)) (now (queue .entry)) r (now (state .exit)) (now (outs .exit)) ⌝ }
+    ensures { λ r. ⌜ Tried (view (now (t .entry))) pairs (event .0) (now (state .entry)) (now (outs .entry)) (now (queue .entry)) r (now (state .exit)) (now (outs .exit)) ⌝ }
 {
     let v = chart::head(t, chart::VARIABLES);
     copies::load(&mut next[..words], state, 0);
@@ -74,7 +74,7 @@ fn attempt_on(
         t,
         ors,
         event,
-        room,
+        pairs,
         &mut next[..words],
         &mut vars[..v],
         outs,
@@ -82,7 +82,7 @@ fn attempt_on(
         effects::start(),
     );
     if macrostep::is_told(n, outs.len()) {
-        lent::lay_rest(t, ors, &next[..words], &mut state[..words]);
+        chart_state::lay_rest(t, ors, &next[..words], &mut state[..words]);
         copies::store(state, words, &vars[..v]);
     }
     n
@@ -95,11 +95,11 @@ fn attempt(
     words: usize,
     state: &mut [u16],
     event: Trigger,
-    room: usize,
+    pairs: usize,
     outs: &mut [u16],
 ) -> Progress
     requires { ⌜ Lent (now t) (cells ors) words (now state) ⌝ }
-    ensures { λ r. ⌜ Tried (view (now (t .entry))) room (event .0) (now (state .entry)) (now (outs .entry)) (zeros 32) r (now (state .exit)) (now (outs .exit)) ⌝ }
+    ensures { λ r. ⌜ Tried (view (now (t .entry))) pairs (event .0) (now (state .entry)) (now (outs .entry)) (zeros 32) r (now (state .exit)) (now (outs .exit)) ⌝ }
 {
     let mut next = [0u16; 24];
     let mut vars = [0u16; 16];
@@ -110,7 +110,7 @@ fn attempt(
         words,
         state,
         event,
-        room,
+        pairs,
         &mut next,
         &mut vars,
         outs,
@@ -131,13 +131,13 @@ fn pass(
     kept: &mut [u16],
 ) -> Progress
     requires { ⌜ Lent (now t) (cells ors) words (now state) × (length (now kept) ≤ length (now outputs)) ⌝ }
-    ensures { λ r. ⌜ Ends (rest (view (now (t .entry)))) (now (state .entry)) (now (outputs .entry)) r (now (state .exit)) (now (outputs .exit)) (macrostep (view (now (t .entry)) .events) (roomFor (length (now (outputs .entry)))) (chartMachine (view (now (t .entry)))) (event .0) (take words (now (state .entry))) (drop words (now (state .entry)))) ⌝ }
+    ensures { λ r. ⌜ Ends (rest (view (now (t .entry)))) (now (state .entry)) (now (outputs .entry)) r (now (state .exit)) (now (outputs .exit)) (macrostep (view (now (t .entry)) .events) (pairsFor (length (now (outputs .entry)))) (chartMachine (view (now (t .entry)))) (event .0) (take words (now (state .entry))) (drop words (now (state .entry)))) ⌝ }
 {
     let all = outputs.len();
-    let room = copies::room_of(all);
+    let pairs = copies::pairs_of(all);
     let first = kept.len();
     copies::load(kept, outputs, 0);
-    let mut n = attempt(t, ors, words, state, event, room, &mut outputs[..first]);
+    let mut n = attempt(t, ors, words, state, event, pairs, &mut outputs[..first]);
     if macrostep::is_told(n, first) {
         return n;
     }
@@ -145,7 +145,7 @@ fn pass(
     if effects::is_stopped(n) {
         return n;
     }
-    n = attempt(t, ors, words, state, event, room, outputs);
+    n = attempt(t, ors, words, state, event, pairs, outputs);
     n
 }
 
@@ -160,7 +160,7 @@ pub fn run(
     outputs: &mut [u16],
 ) -> Progress
     requires { ⌜ Lent (now t) (cells ors) words (now state) ⌝ }
-    ensures { λ r. ⌜ Ends (rest (view (now (t .entry)))) (now (state .entry)) (now (outputs .entry)) r (now (state .exit)) (now (outputs .exit)) (macrostep (view (now (t .entry)) .events) (roomFor (length (now (outputs .entry)))) (chartMachine (view (now (t .entry)))) (event .0) (take words (now (state .entry))) (drop words (now (state .entry)))) ⌝ }
+    ensures { λ r. ⌜ Ends (rest (view (now (t .entry)))) (now (state .entry)) (now (outputs .entry)) r (now (state .exit)) (now (outputs .exit)) (macrostep (view (now (t .entry)) .events) (pairsFor (length (now (outputs .entry)))) (chartMachine (view (now (t .entry)))) (event .0) (take words (now (state .entry))) (drop words (now (state .entry)))) ⌝ }
 {
     let first = macrostep::first_of(outputs.len());
     let mut kept = [0u16; KEPT];

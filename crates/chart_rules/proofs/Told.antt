@@ -9,7 +9,7 @@ use Rattle.words.proofs.Tests.{ltb-yes, ltb-lt, ltb-no}
 use Rattle.words.proofs.Tells.{Tells, eq, lt, le, itself, said, _and_, not-so, choose, every}
 use Rattle.table.specs.Span.{Span, Inside, inside?}
 use Rattle.table.proofs.Items as Items
-use Rattle.chart.specs.View.{Chart, countsOf, isAnd, andState?, IsAnd, IsOr}
+use Rattle.chart.specs.View.{Chart, itemCounts, isAnd, andState?, IsAnd, IsOr}
 use Rattle.chart.specs.Tree.{apart}
 use Rattle.chart.proofs.Tree.{apart-told, apart-tells}
 use Rattle.chart_head.specs.Rules.{GoodCounts}
@@ -131,7 +131,7 @@ module _ (c : Chart) where
 
   -- ---- rule 7
   pub item : (i : ℕ) → Tells (itemKept c i) (ItemKept c i)
-  item i = Items.item (countsOf c) (c .item i .kind) (c .item i .a) (c .item i .b)
+  item i = Items.item (itemCounts c) (c .item i .kind) (c .item i .a) (c .item i .b)
 
   -- ---- rule 8
   pub source : (k : ℕ) → Tells (goodSource? c k) (GoodSource c k)

@@ -5,7 +5,7 @@ use mathlib.Core.Logic.{_≢_}
 use mathlib.Core.List.{List}
 use Rattle.table.specs.Span.{Inside}
 use Rattle.table.specs.Rows.{GoodItem}
-use Rattle.chart.specs.View.{Chart, view, countsOf, IsAnd, IsOr}
+use Rattle.chart.specs.View.{Chart, view, itemCounts, IsAnd, IsOr}
 use Rattle.chart.specs.Tree.{Apart}
 use Rattle.chart_head.specs.Rules.{GoodForm, GoodCounts, GoodLayout}
 
@@ -47,7 +47,7 @@ LiteralKept c i = GoodLiteral c (c .literal i .kind) (c .literal i .a) (c .liter
 
 -- Rule 7 for item i; `GoodItem` of table/specs/Rows says it.
 abbrev pub ItemKept : Chart → ℕ → Type 0
-ItemKept c i = GoodItem (countsOf c) (c .item i .kind) (c .item i .a) (c .item i .b)
+ItemKept c i = GoodItem (itemCounts c) (c .item i .kind) (c .item i .a) (c .item i .b)
 
 -- Rule 8. 01, Tree: "The source is an and-state"; Transition: "Triggers 0..e-1 are events; signal k is trigger e+k".
 pub record GoodSource (c : Chart) (k : ℕ) : Type 0 where

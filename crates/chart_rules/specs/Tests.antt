@@ -5,7 +5,7 @@ use lib.Dec.{eqb, ltb, leb}
 use Rattle.words.specs.Loops.{allBelow}
 use Rattle.table.specs.Rows.{goodItemIn?}
 use Rattle.table.specs.Span.{inside?}
-use Rattle.chart.specs.View.{Chart, countsOf, isAnd, andState?, childOf?}
+use Rattle.chart.specs.View.{Chart, itemCounts, isAnd, andState?, childOf?}
 use Rattle.chart.specs.Tree.{apart}
 use Rattle.chart_rules.specs.Rules.{aim}
 
@@ -53,7 +53,7 @@ abbrev pub literalKept : Chart → ℕ → Bool
 literalKept c i = goodLiteral? c (c .literal i .kind) (c .literal i .a) (c .literal i .b)
 
 abbrev pub itemKept : Chart → ℕ → Bool
-itemKept c i = goodItemIn? (countsOf c) (c .item i)
+itemKept c i = goodItemIn? (itemCounts c) (c .item i)
 
 -- rule 8
 unfoldable pub goodSource? : Chart → ℕ → Bool

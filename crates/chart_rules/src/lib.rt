@@ -7,7 +7,7 @@ ghost use Rattle.chart.specs.Readable.{Readable};
 ghost use Rattle.chart_rules.specs.Tests.{differ, rootPlace?, innerPlace?, goodPlace?, orBody?, goodBody?, goodState?};
 ghost use Rattle.chart_rules.specs.Tests.{goodStateSpans?, goodTransitionSpans?, goodSpans?};
 ghost use Rattle.chart_rules.specs.Tests.{literalKept, itemKept, goodSource?};
-use table::Counts;
+use table::ItemCounts;
 use table::span_inside;
 use words::both;
 use words::number_in;
@@ -140,7 +140,7 @@ pub fn good_item(t: &[u16], i: usize) -> bool
     requires { ⌜ Readable (now t) × (i < view (now t) .items) ⌝ }
     ensures { λ r. ⌜ r ≡ itemKept (view (now (t .entry))) i ⌝ }
 {
-    let counts = Counts {
+    let counts = ItemCounts {
         signals: words::word_in(t, chart::SIGNALS),
         outputs: words::word_in(t, chart::OUTPUTS),
         variables: words::word_in(t, chart::VARIABLES),

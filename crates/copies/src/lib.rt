@@ -4,7 +4,7 @@ ghost use mathlib.Core.Path.{_≡_};
 ghost use mathlib.Core.List.{_++_};
 ghost use Prim.Native.Nat.{_+_, _-_, _≤_};
 ghost use lib.ListN.{length, take, drop};
-ghost use Rattle.effects.specs.Lent.{roomFor, zeros};
+ghost use Rattle.effects.specs.Lent.{pairsFor, zeros};
 
 // As many words as `to` has, of `from` from `at` on.
 pub fn load(to: &mut [u16], from: &[u16], at: usize)
@@ -53,8 +53,8 @@ pub fn clear(to: &mut [u16], at: usize)
 }
 
 // The smaller of 256 and the pairs that `lent` words have.
-pub fn room_of(lent: usize) -> usize
-    ensures is { λ r. ⌜ r ≡ roomFor lent ⌝ }
+pub fn pairs_of(lent: usize) -> usize
+    ensures is { λ r. ⌜ r ≡ pairsFor lent ⌝ }
     ensures few { λ r. ⌜ r ≤ 256 ⌝ }
 {
     let pairs = lent / 2;

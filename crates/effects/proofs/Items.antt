@@ -12,20 +12,20 @@ use Rattle.table.specs.Triple.{tripleAt}
 use Rattle.table.specs.Items.{itemIn}
 use Rattle.effects.specs.Work.{Work, stopped?, doItem, doItems, itemsFrom, spanItems}
 
-module _ (t : List ℕ) (room at k : ℕ) (w : Work) where
+module _ (t : List ℕ) (pairs at k : ℕ) (w : Work) where
   pub step : 0 < k → stopped? (w .n) ≡ false
-      → doItems room (itemsFrom t at k) w
-      ≡ doItems room (itemsFrom t (at + 3) (k - 1)) (doItem room (itemIn (tripleAt t at)) w)
+      → doItems pairs (itemsFrom t at k) w
+      ≡ doItems pairs (itemsFrom t (at + 3) (k - 1)) (doItem pairs (itemIn (tripleAt t at)) w)
   unfolding doItems itemsFrom
   step h e =
       let z : k ≡ suc (k - 1) = omega arith in
-      ap (λ (n : ℕ). doItems room (itemsFrom t at n) w) z ∙ rw (doItems, e)
+      ap (λ (n : ℕ). doItems pairs (itemsFrom t at n) w) z ∙ rw (doItems, e)
 
-  pub stop : 0 < k → stopped? (w .n) ≡ true → doItems room (itemsFrom t at k) w ≡ w
+  pub stop : 0 < k → stopped? (w .n) ≡ true → doItems pairs (itemsFrom t at k) w ≡ w
   unfolding doItems itemsFrom
   stop h e = let z : k ≡ suc (k - 1) = omega arith in rw (z, doItems, e)
 
-  pub done : k ≤ 0 → doItems room (itemsFrom t at k) w ≡ w
+  pub done : k ≤ 0 → doItems pairs (itemsFrom t at k) w ≡ w
   unfolding doItems itemsFrom
   done h = let z : k ≡ 0 = omega arith in rw (z, doItems)
 

@@ -29,20 +29,20 @@ holds-if false a r p = refused
 abbrev Long : ℕ → Env → Type 0
 Long n s = length (s .vars) ≡ n
 
-module _ (room n : ℕ) where
-  item-long : (x : Item) (s : Env) → Long n s → Holds (Long n) (item room x s)
+module _ (pairs n : ℕ) where
+  item-long : (x : Item) (s : Env) → Long n s → Holds (Long n) (item pairs x s)
   unfolding item emitTo raiseTo setVar
-  item-long (Emit a) s l = holds-if (ltb (length (s .outs)) room) _ _ l
+  item-long (Emit a) s l = holds-if (ltb (length (s .outs)) pairs) _ _ l
   item-long (Raise k) s l = holds-if (ltb (length (s .queue)) 32) _ _ l
   item-long (WrapAdd a b) s l = done (length-set (s .vars) a _ ∙ l)
   item-long (SatAdd a b) s l = done (length-set (s .vars) a _ ∙ l)
   item-long (Set a b) s l = done (length-set (s .vars) a b ∙ l)
-  item-long (Log a b) s l = holds-if (ltb (length (s .outs)) room) _ _ l
+  item-long (Log a b) s l = holds-if (ltb (length (s .outs)) pairs) _ _ l
 
-  items-long : (xs : List Item) (s : Env) → Long n s → Holds (Long n) (items room xs s)
+  items-long : (xs : List Item) (s : Env) → Long n s → Holds (Long n) (items pairs xs s)
   unfolding items
   items-long [] s l = done l
-  items-long (x ∷ xs) s l = holds-bind (items room xs) (item-long x s l) (items-long xs)
+  items-long (x ∷ xs) s l = holds-bind (items pairs xs) (item-long x s l) (items-long xs)
 
 -- ---- microsteps
 -- words of which P holds, and n variables
@@ -50,12 +50,12 @@ pub record Kept (P : List ℕ → Type 0) (n : ℕ) (s : St) : Type 0 where
   pub words : P (s .words)
   pub vars : length (s .env .vars) ≡ n
 
-module _ (P : List ℕ → Type 0) (n events room : ℕ) (m : Machine)
+module _ (P : List ℕ → Type 0) (n events pairs : ℕ) (m : Machine)
     (keeps : (e : ℕ) (words vars : List ℕ) → P words → P (setAll (setsOf (m e words vars)) words)) where
-  steps-keep : (e : ℕ) (s : St) → Kept P n s → Holds (Kept P n) (steps room (m e (s .words) (s .env .vars)) s)
+  steps-keep : (e : ℕ) (s : St) → Kept P n s → Holds (Kept P n) (steps pairs (m e (s .words) (s .env .vars)) s)
   unfolding steps after
   steps-keep e s k =
-      holds-bind _ (items-long room n (doesOf (m e (s .words) (s .env .vars))) (s .env) (k .vars))
+      holds-bind _ (items-long pairs n (doesOf (m e (s .words) (s .env .vars))) (s .env) (k .vars))
       (λ v l. done (record { words = keeps e (s .words) (s .env .vars) (k .words); vars = l }))
 
   next-keeps : (go : ℕ → St → Result St) → ((e : ℕ) (s : St) → Kept P n s → Holds (Kept P n) (go e s))
@@ -64,13 +64,13 @@ module _ (P : List ℕ → Type 0) (n events room : ℕ) (m : Machine)
   next-keeps go h [] s k = done k
   next-keeps go h (e ∷ q) s k = h (events + e) (withQueue q s) (record { words = k .words; vars = k .vars })
 
-  loop-keeps : (more e : ℕ) (s : St) → Kept P n s → Holds (Kept P n) (loop more events room m e s)
+  loop-keeps : (more e : ℕ) (s : St) → Kept P n s → Holds (Kept P n) (loop more events pairs m e s)
   unfolding loop
   loop-keeps zero e s k = refused
   loop-keeps (suc more) e s k =
-      holds-bind _ (steps-keep e s k) (λ v. next-keeps (loop more events room m) (loop-keeps more) (v .env .queue) v)
+      holds-bind _ (steps-keep e s k) (λ v. next-keeps (loop more events pairs m) (loop-keeps more) (v .env .queue) v)
 
   pub macrostep-keeps : (e : ℕ) (words vars : List ℕ) → P words → length vars ≡ n
-      → Holds (Kept P n) (macrostep events room m e words vars)
+      → Holds (Kept P n) (macrostep events pairs m e words vars)
   unfolding macrostep start
   macrostep-keeps e words vars p l = loop-keeps 64 e (start words vars) (record { words = p; vars = l })

@@ -11,7 +11,7 @@ use Rattle.table.specs.declared.Refusal.the-variants.{Signals as signals, Outpu
 use Rattle.effects.specs.declared.Progress.{Progress}
 use Rattle.effects.specs.declared.Stop.{Stop}
 use Rattle.effects.specs.declared.Stop.the-variants.{Signals, Outputs, Microsteps}
-use Rattle.effects.specs.Run.{Tag, leave, take, enter, isLeave, isTake, isEnter}
+use Rattle.effects.specs.Run.{Tag, leave, fire, enter, isLeave, isFire, isEnter}
 use Rattle.effects.specs.Work.{plus, one, bitsOf, stopped?, refusalOf}
 
 -- what `counts` holds, and what `rest` holds
@@ -39,10 +39,10 @@ module _ (taken left entered : ℕ) where
   entered-is e = omega arith
 
   pub one-more : (g : Tag) → taken < 1048576 → left < 1048576 → entered < 1048576
-      → plus (packCounts taken left entered) (one g) ≡ packCounts (taken + isTake g) (left + isLeave g) (entered + isEnter g)
+      → plus (packCounts taken left entered) (one g) ≡ packCounts (taken + isFire g) (left + isLeave g) (entered + isEnter g)
   unfolding packCounts
   one-more leave t l e = omega arith
-  one-more take t l e = omega arith
+  one-more fire t l e = omega arith
   one-more enter t l e = omega arith
 
 -- ---- microsteps, signals and outputs

@@ -28,17 +28,17 @@ shown o head micro counts v q =
     work (progress counts (packRest micro (head + length (v .queue)) head (length (v .outs)))) (v .vars) (written 0 (v .outs) o) q
 
 -- v is within its limits, and its waiting signals stand in q, a ring of 32 bytes.
-pub record Fits (room head : ℕ) (v : Env) (q : List ℕ) : Type 0 where
-  pub few : length (v .outs) ≤ room
+pub record Fits (pairs head : ℕ) (v : Env) (q : List ℕ) : Type 0 where
+  pub few : length (v .outs) ≤ pairs
   pub waiting : length (v .queue) ≤ 32
   pub early : head ≤ 64
   pub long : length q ≡ 32
   pub signals : (i : ℕ) → i < length (v .queue) → getD q ((head + i) % 32) 0 ≡ getD (v .queue) i 0
 
 -- The work shows what is meant, or has stopped for the same reason.
-pub data Shows (room : ℕ) (o : List ℕ) (head micro counts : ℕ) : Result Env → Work → Type 0 where
-  fine : {v : Env} {q : List ℕ} → Fits room head v q → Shows room o head micro counts (ok v) (shown o head micro counts v q)
-  stopped : {r : Refusal} {w : Work} → Halts r (w .n .rest) → Shows room o head micro counts (refuse r) w
+pub data Shows (pairs : ℕ) (o : List ℕ) (head micro counts : ℕ) : Result Env → Work → Type 0 where
+  fine : {v : Env} {q : List ℕ} → Fits pairs head v q → Shows pairs o head micro counts (ok v) (shown o head micro counts v q)
+  stopped : {r : Refusal} {w : Work} → Halts r (w .n .rest) → Shows pairs o head micro counts (refuse r) w
 
 -- one pair more is written behind the others
 written-last : (ps : List (ℕ × ℕ)) (p : ℕ × ℕ) (k n : ℕ) (o : List ℕ) → n ≡ k + length ps
@@ -48,7 +48,7 @@ written-last [] p k n o e = let z : n ≡ k = omega arith in rw z refl
 written-last (x ∷ ps) p k n o e = written-last ps p (k + 1) n _ (omega arith)
 
 -- v's counts are few
-pub few-counted : {room head : ℕ} {v : Env} {q : List ℕ} (micro : ℕ) → room ≤ 256 → micro ≤ 64 → Fits room head v q
+pub few-counted : {pairs head : ℕ} {v : Env} {q : List ℕ} (micro : ℕ) → pairs ≤ 256 → micro ≤ 64 → Fits pairs head v q
     → Few micro (head + length (v .queue)) head (length (v .outs))
 few-counted micro small soon f = record {
   micro = soon;
@@ -57,10 +57,10 @@ few-counted micro small soon f = record {
   outs = omega (arith, f .few);
 }
 
-module _ (room : ℕ) (small : room ≤ 256) (o : List ℕ) (head micro : ℕ) (soon : micro ≤ 64) where
-  module _ (counts : ℕ) {v : Env} {q : List ℕ} (f : Fits room head v q) where
-    emitted : (a x : ℕ) → length (v .outs) < room
-        → Fits room head (record { vars = v .vars; outs = v .outs ++ ((a, x) ∷ []); queue = v .queue }) q
+module _ (pairs : ℕ) (small : pairs ≤ 256) (o : List ℕ) (head micro : ℕ) (soon : micro ≤ 64) where
+  module _ (counts : ℕ) {v : Env} {q : List ℕ} (f : Fits pairs head v q) where
+    emitted : (a x : ℕ) → length (v .outs) < pairs
+        → Fits pairs head (record { vars = v .vars; outs = v .outs ++ ((a, x) ∷ []); queue = v .queue }) q
     emitted a x l = record {
       few = omega (arith, length-append (v .outs) ((a, x) ∷ []));
       waiting = f .waiting;
@@ -70,21 +70,21 @@ module _ (room : ℕ) (small : room ≤ 256) (o : List ℕ) (head micro : ℕ) (
     }
 
     emit-shows : (a x : ℕ)
-        → Shows room o head micro counts (emitTo room a x v) (onOuts (doEmit room a x) (shown o head micro counts v q))
+        → Shows pairs o head micro counts (emitTo pairs a x v) (onOuts (doEmit pairs a x) (shown o head micro counts v q))
     unfolding emitTo doEmit
     emit-shows a x =
         let n = length (v .outs) in
         let b = few-counted micro small soon f in
         let count = outs-more b _ (length-append (v .outs) ((a, x) ∷ [])) in
         let words = written-last (v .outs) (a, x) 0 n o (omega arith) in
-        by-bool (ltb n room)
-        (λ e. let l = ltb-lt n room e in rw (e, outs-is b, lt-leb room n l, count, words) (fine (emitted a x l)))
-        (λ e. rw (e, outs-is b, le-leb room n (ltb-ge n room e)) (stopped (halts Outputs _ (below b))))
+        by-bool (ltb n pairs)
+        (λ e. let l = ltb-lt n pairs e in rw (e, outs-is b, lt-leb pairs n l, count, words) (fine (emitted a x l)))
+        (λ e. rw (e, outs-is b, le-leb pairs n (ltb-ge n pairs e)) (stopped (halts Outputs _ (below b))))
 
     -- the signals that waited, and the one raised
     raised-old : (x i : ℕ) → length (v .queue) < 32 → i < length (v .queue)
         → getD (set q ((head + length (v .queue)) % 32) x) ((head + i) % 32) 0 ≡ getD (v .queue ++ (x ∷ [])) i 0
-    raised-old x i room l =
+    raised-old x i pairs l =
         getD-set-other q ((head + length (v .queue)) % 32) ((head + i) % 32) x 0 (λ e. omega arith)
         ∙ f .signals i l
         ∙ sym (List·getD-append (v .queue) (x ∷ []) 0 i l)
@@ -97,7 +97,7 @@ module _ (room : ℕ) (small : room ≤ 256) (o : List ℕ) (head micro : ℕ) (
         ∙ sym (getD-append-seam (v .queue) x [] 0)
 
     raised : (x : ℕ) → length (v .queue) < 32
-        → Fits room head (record { vars = v .vars; outs = v .outs; queue = v .queue ++ (x ∷ []) })
+        → Fits pairs head (record { vars = v .vars; outs = v .outs; queue = v .queue ++ (x ∷ []) })
         (set q ((head + length (v .queue)) % 32) x)
     raised x l =
         let n : length (v .queue ++ (x ∷ [])) ≡ length (v .queue) + 1 = length-append (v .queue) (x ∷ []) in
@@ -110,7 +110,7 @@ module _ (room : ℕ) (small : room ≤ 256) (o : List ℕ) (head micro : ℕ) (
         }
 
     raise-shows : (x : ℕ) → x < 256
-        → Shows room o head micro counts (raiseTo x v) (onQueue (doRaise x) (shown o head micro counts v q))
+        → Shows pairs o head micro counts (raiseTo x v) (onQueue (doRaise x) (shown o head micro counts v q))
     unfolding raiseTo doRaise
     raise-shows x h =
         let n = length (v .queue) in
@@ -124,7 +124,7 @@ module _ (room : ℕ) (small : room ≤ 256) (o : List ℕ) (head micro : ℕ) (
         rw (e, head-is b, tail-is b, lt-leb (head + 32) tail (omega arith), count, byte) (fine (raised x l)))
         (λ e. rw (e, head-is b, tail-is b, full (ltb-ge n 32 e)) (stopped (halts Signals _ (below b))))
 
-    set-fits : (vars : List ℕ) → Fits room head (record { vars = vars; outs = v .outs; queue = v .queue }) q
+    set-fits : (vars : List ℕ) → Fits pairs head (record { vars = vars; outs = v .outs; queue = v .queue }) q
     set-fits vars = record {
       few = f .few;
       waiting = f .waiting;
@@ -134,7 +134,7 @@ module _ (room : ℕ) (small : room ≤ 256) (o : List ℕ) (head micro : ℕ) (
     }
 
     item-shows : (x : Item) → SmallItem x
-        → Shows room o head micro counts (item room x v) (doItem room x (shown o head micro counts v q))
+        → Shows pairs o head micro counts (item pairs x v) (doItem pairs x (shown o head micro counts v q))
     unfolding item doItem setVar
     item-shows (Emit a) h = emit-shows a 0
     item-shows (Raise s) h = raise-shows (s .0) h
@@ -145,17 +145,17 @@ module _ (room : ℕ) (small : room ≤ 256) (o : List ℕ) (head micro : ℕ) (
 
   -- one thing after another, where the second leaves a stop as it is
   pub follow : {r : Result Env} {w : Work} {c d : ℕ} (F : Env → Result Env) (G : Work → Work)
-      → ((v : Env) (q : List ℕ) → Fits room head v q → Shows room o head micro d (F v) (G (shown o head micro c v q)))
+      → ((v : Env) (q : List ℕ) → Fits pairs head v q → Shows pairs o head micro d (F v) (G (shown o head micro c v q)))
       → ((u : Work) → stopped? (u .n) ≡ true → G u .n .rest ≡ u .n .rest)
-      → Shows room o head micro c r w → Shows room o head micro d (r >>= F) (G w)
+      → Shows pairs o head micro c r w → Shows pairs o head micro d (r >>= F) (G w)
   follow F G on stay (fine {v} {q} f) = on v q f
   follow F G on stay (stopped {r} {w} s) = stopped (subst (Halts r) (sym (stay w (halts-now (w .n .counts) s))) s)
 
-  pub items-shows : (counts : ℕ) (xs : List Item) → AllSmall xs → (v : Env) (q : List ℕ) → Fits room head v q
-      → Shows room o head micro counts (items room xs v) (doItems room xs (shown o head micro counts v q))
+  pub items-shows : (counts : ℕ) (xs : List Item) → AllSmall xs → (v : Env) (q : List ℕ) → Fits pairs head v q
+      → Shows pairs o head micro counts (items pairs xs v) (doItems pairs xs (shown o head micro counts v q))
   unfolding items doItems
   items-shows counts [] h v q f = fine f
   items-shows counts (x ∷ xs) h v q f =
       rw (goes-on (few-counted micro small soon f) counts)
-      (follow (items room xs) (doItems room xs) (λ u p g. items-shows counts xs (h .1) u p g)
-      (λ u e. ap (λ (w : Work). w .n .rest) (doItems-stopped room xs u e)) (item-shows counts f x (h .0)))
+      (follow (items pairs xs) (doItems pairs xs) (λ u p g. items-shows counts xs (h .1) u p g)
+      (λ u e. ap (λ (w : Work). w .n .rest) (doItems-stopped pairs xs u e)) (item-shows counts f x (h .0)))

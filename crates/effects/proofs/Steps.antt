@@ -7,7 +7,7 @@ use native.Mathlib.Nat.{add-zero}
 use native.Mathlib.Omega.{arith}
 use lib.ListN.{length}
 use Rattle.table.specs.declared.Item.{Item}
-use Rattle.effects.specs.Run.{Env, items, Tag, leave, take, enter, Step, doesOf, setAll, isLeave, isTake, isEnter, count}
+use Rattle.effects.specs.Run.{Env, items, Tag, leave, fire, enter, Step, doesOf, setAll, isLeave, isFire, isEnter, count}
 use Rattle.effects.specs.Work.{Work, plus, one, doStep, doSteps}
 use Rattle.effects.proofs.Stops.{doSteps-stop, items-append}
 use Rattle.effects.proofs.Raised.{AllSmall}
@@ -19,13 +19,13 @@ abbrev pub tallies : List Step → ℕ → ℕ
 tallies [] c = c
 tallies (x ∷ xs) c = tallies xs (plus c (one (x .tag)))
 
-one-of : (g : Tag) → isLeave g + isTake g + isEnter g ≡ 1
+one-of : (g : Tag) → isLeave g + isFire g + isEnter g ≡ 1
 one-of leave = refl
-one-of take = refl
+one-of fire = refl
 one-of enter = refl
 
 -- every step is counted once
-pub count-all : (xs : List Step) → count isLeave xs + count isTake xs + count isEnter xs ≡ length xs
+pub count-all : (xs : List Step) → count isLeave xs + count isFire xs + count isEnter xs ≡ length xs
 count-all [] = refl
 count-all (x ∷ xs) = omega (arith, one-of (x .tag), count-all xs)
 
@@ -33,39 +33,39 @@ count-all (x ∷ xs) = omega (arith, one-of (x .tag), count-all xs)
 pub tallies-are : (xs : List Step) (taken left entered : ℕ)
     → taken + length xs < 1048576 → left + length xs < 1048576 → entered + length xs < 1048576
     → tallies xs (packCounts taken left entered)
-    ≡ packCounts (taken + count isTake xs) (left + count isLeave xs) (entered + count isEnter xs)
+    ≡ packCounts (taken + count isFire xs) (left + count isLeave xs) (entered + count isEnter xs)
 tallies-are [] taken left entered t l e = simp add-zero
 tallies-are (x ∷ xs) taken left entered t l e =
     let g = x .tag in
     let o = one-of g in
-    let a : taken + isTake g + count isTake xs ≡ taken + (isTake g + count isTake xs) = omega arith in
+    let a : taken + isFire g + count isFire xs ≡ taken + (isFire g + count isFire xs) = omega arith in
     let b : left + isLeave g + count isLeave xs ≡ left + (isLeave g + count isLeave xs) = omega arith in
     let c : entered + isEnter g + count isEnter xs ≡ entered + (isEnter g + count isEnter xs) = omega arith in
     ap (tallies xs) (one-more taken left entered g (omega arith) (omega arith) (omega arith))
-    ∙ tallies-are xs (taken + isTake g) (left + isLeave g) (entered + isEnter g) (omega arith) (omega arith) (omega arith)
+    ∙ tallies-are xs (taken + isFire g) (left + isLeave g) (entered + isEnter g) (omega arith) (omega arith) (omega arith)
     ∙ rw (a, b, c) refl
 
 small-parts : (xs ys : List Item) → AllSmall (xs ++ ys) → AllSmall xs × AllSmall ys
 small-parts [] ys h = (tt, h)
 small-parts (x ∷ xs) ys h = let r = small-parts xs ys (h .1) in ((h .0, r .0), r .1)
 
-module _ (room : ℕ) (small : room ≤ 256) (o : List ℕ) (head micro : ℕ) (soon : micro ≤ 64) where
+module _ (pairs : ℕ) (small : pairs ≤ 256) (o : List ℕ) (head micro : ℕ) (soon : micro ≤ 64) where
   abbrev workAfter : List Step → List ℕ → Work → Work
-  workAfter xs words w = doSteps room xs (record { does = w; words = words }) .does
+  workAfter xs words w = doSteps pairs xs (record { does = w; words = words }) .does
 
   -- the steps show what their items mean, from wherever the code is
   abbrev AllShow : List Step → ℕ → List ℕ → Type 0
-  AllShow xs c words = (v : Env) (q : List ℕ) → Fits room head v q
-      → Shows room o head micro (tallies xs c) (items room (doesOf xs) v) (workAfter xs words (shown o head micro c v q))
+  AllShow xs c words = (v : Env) (q : List ℕ) → Fits pairs head v q
+      → Shows pairs o head micro (tallies xs c) (items pairs (doesOf xs) v) (workAfter xs words (shown o head micro c v q))
 
   step-shows : (x : Step) (xs : List Step) (c : ℕ) (words : List ℕ) → AllSmall (x .does)
       → AllShow xs (plus c (one (x .tag))) (setAll (x .sets) words) → AllShow (x ∷ xs) c words
   unfolding doSteps doStep
   step-shows x xs c words h rest v q f =
-      rw (items-append room (x .does) (doesOf xs) v)
-      (follow room small o head micro soon (items room (doesOf xs)) (workAfter xs (setAll (x .sets) words)) rest
-      (λ u e. doSteps-stop room xs (record { does = u; words = setAll (x .sets) words }) e)
-      (items-shows room small o head micro soon (plus c (one (x .tag))) (x .does) h v q f))
+      rw (items-append pairs (x .does) (doesOf xs) v)
+      (follow pairs small o head micro soon (items pairs (doesOf xs)) (workAfter xs (setAll (x .sets) words)) rest
+      (λ u e. doSteps-stop pairs xs (record { does = u; words = setAll (x .sets) words }) e)
+      (items-shows pairs small o head micro soon (plus c (one (x .tag))) (x .does) h v q f))
 
   pub steps-shows : (xs : List Step) (c : ℕ) (words : List ℕ) → AllSmall (doesOf xs) → AllShow xs c words
   unfolding doSteps items

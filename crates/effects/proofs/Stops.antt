@@ -19,14 +19,14 @@ pub setAll-append : (ps qs : List (ℕ × ℕ)) (l : List ℕ) → setAll (ps ++
 setAll-append [] qs l = refl
 setAll-append (p ∷ ps) qs l = setAll-append ps qs (set l (p .0) (p .1))
 
-module _ (room : ℕ) where
+module _ (pairs : ℕ) where
   -- ---- a stop
-  pub doItems-stopped : (xs : List Item) (w : Work) → stopped? (w .n) ≡ true → doItems room xs w ≡ w
+  pub doItems-stopped : (xs : List Item) (w : Work) → stopped? (w .n) ≡ true → doItems pairs xs w ≡ w
   unfolding doItems
   doItems-stopped [] w e = refl
   doItems-stopped (x ∷ xs) w e = rw e refl
 
-  doStep-stop : (x : Step) (g : Going) → stopped? (g .does .n) ≡ true → doStep room x g .does .n .rest ≡ g .does .n .rest
+  doStep-stop : (x : Step) (g : Going) → stopped? (g .does .n) ≡ true → doStep pairs x g .does .n .rest ≡ g .does .n .rest
   unfolding doStep
   doStep-stop x g e =
       let w = tagged (x .tag) (g .does) in
@@ -34,31 +34,31 @@ module _ (room : ℕ) where
 
   -- steps after a stop only count and set words
   pub doSteps-stop : (xs : List Step) (g : Going)
-      → stopped? (g .does .n) ≡ true → doSteps room xs g .does .n .rest ≡ g .does .n .rest
+      → stopped? (g .does .n) ≡ true → doSteps pairs xs g .does .n .rest ≡ g .does .n .rest
   unfolding doSteps
   doSteps-stop [] g e = refl
   doSteps-stop (x ∷ xs) g e =
       let k = doStep-stop x g e in
-      doSteps-stop xs (doStep room x g) (stays (doStep room x g .does .n) (g .does .n) k e) ∙ k
+      doSteps-stop xs (doStep pairs x g) (stays (doStep pairs x g .does .n) (g .does .n) k e) ∙ k
 
   -- ---- joined
-  pub doSteps-append : (xs ys : List Step) (g : Going) → doSteps room (xs ++ ys) g ≡ doSteps room ys (doSteps room xs g)
+  pub doSteps-append : (xs ys : List Step) (g : Going) → doSteps pairs (xs ++ ys) g ≡ doSteps pairs ys (doSteps pairs xs g)
   unfolding doSteps
   doSteps-append [] ys g = refl
-  doSteps-append (x ∷ xs) ys g = doSteps-append xs ys (doStep room x g)
+  doSteps-append (x ∷ xs) ys g = doSteps-append xs ys (doStep pairs x g)
 
-  bind-append : (xs ys : List Item) → ((v : Env) → items room (xs ++ ys) v ≡ (items room xs v >>= items room ys))
-      → (r : Result Env) → (r >>= items room (xs ++ ys)) ≡ ((r >>= items room xs) >>= items room ys)
+  bind-append : (xs ys : List Item) → ((v : Env) → items pairs (xs ++ ys) v ≡ (items pairs xs v >>= items pairs ys))
+      → (r : Result Env) → (r >>= items pairs (xs ++ ys)) ≡ ((r >>= items pairs xs) >>= items pairs ys)
   bind-append xs ys h (ok v) = h v
   bind-append xs ys h (refuse r) = refl
 
-  pub items-append : (xs ys : List Item) (v : Env) → items room (xs ++ ys) v ≡ (items room xs v >>= items room ys)
+  pub items-append : (xs ys : List Item) (v : Env) → items pairs (xs ++ ys) v ≡ (items pairs xs v >>= items pairs ys)
   unfolding items
   items-append [] ys v = refl
-  items-append (x ∷ xs) ys v = bind-append xs ys (λ u. items-append xs ys u) (item room x v)
+  items-append (x ∷ xs) ys v = bind-append xs ys (λ u. items-append xs ys u) (item pairs x v)
 
   -- ---- words
-  pub doSteps-words : (xs : List Step) (g : Going) → doSteps room xs g .words ≡ setAll (setsOf xs) (g .words)
+  pub doSteps-words : (xs : List Step) (g : Going) → doSteps pairs xs g .words ≡ setAll (setsOf xs) (g .words)
   unfolding doSteps doStep
   doSteps-words [] g = refl
-  doSteps-words (x ∷ xs) g = doSteps-words xs (doStep room x g) ∙ sym (setAll-append (x .sets) (setsOf xs) (g .words))
+  doSteps-words (x ∷ xs) g = doSteps-words xs (doStep pairs x g) ∙ sym (setAll-append (x .sets) (setsOf xs) (g .words))

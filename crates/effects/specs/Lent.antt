@@ -7,8 +7,8 @@ use Rattle.table.specs.Answers.{told}
 use Rattle.table.specs.declared.Verdict.{Verdict}
 
 -- 22: "an output beyond 256 or beyond the lent pairs (an odd last word is no pair)".
-abbrev pub roomFor : ℕ → ℕ
-roomFor lent = let pairs = lent / 2 in cond (ltb 256 pairs) 256 pairs
+abbrev pub pairsFor : ℕ → ℕ
+pairsFor lent = let pairs = lent / 2 in cond (ltb 256 pairs) 256 pairs
 
 -- As many zeros.
 abbrev pub zeros : ℕ → List ℕ

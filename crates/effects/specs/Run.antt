@@ -29,10 +29,10 @@ pub record Env : Type 0 where
   pub outs : List (ℕ × ℕ)
   pub queue : List ℕ
 
--- 22: "an output beyond 256 or beyond the lent pairs". `room` is the smaller of the two.
+-- 22: "an output beyond 256 or beyond the lent pairs". `pairs` is the smaller of the two.
 unfoldable pub emitTo : ℕ → ℕ → ℕ → Env → Result Env
-emitTo room a v s =
-    cond (ltb (length (s .outs)) room)
+emitTo pairs a v s =
+    cond (ltb (length (s .outs)) pairs)
     (ok (record { vars = s .vars; outs = s .outs ++ ((a, v) ∷ []); queue = s .queue })) (refuse Outputs)
 
 -- 21: "a raise while 32 signals wait".
@@ -49,16 +49,16 @@ var a s = getD (s .vars) a 0
 
 -- 01, Item.
 unfoldable pub item : ℕ → Item → Env → Result Env
-item room (Emit a) s = emitTo room a 0 s
-item room (Raise k) s = raiseTo (k .0) s
-item room (WrapAdd a b) s = ok (setVar a (wrapAdd (var a s) b) s)
-item room (SatAdd a b) s = ok (setVar a (satAdd (var a s) b) s)
-item room (Set a b) s = ok (setVar a b s)
-item room (Log a b) s = emitTo room a (var b s) s
+item pairs (Emit a) s = emitTo pairs a 0 s
+item pairs (Raise k) s = raiseTo (k .0) s
+item pairs (WrapAdd a b) s = ok (setVar a (wrapAdd (var a s) b) s)
+item pairs (SatAdd a b) s = ok (setVar a (satAdd (var a s) b) s)
+item pairs (Set a b) s = ok (setVar a b s)
+item pairs (Log a b) s = emitTo pairs a (var b s) s
 
 unfoldable pub items : ℕ → List Item → Env → Result Env
-items room [] s = ok s
-items room (x ∷ xs) s = item room x s >>= items room xs
+items pairs [] s = ok s
+items pairs (x ∷ xs) s = item pairs x s >>= items pairs xs
 
 -- 01, Order: "Success writes two words an output and nothing past them": the words lent, with pair k and those behind it
 -- written.
@@ -70,7 +70,7 @@ written k (p ∷ ps) o = written (k + 1) ps (set (set o (2 * k) (p .0)) (2 * k +
 -- What a step is counted as: a state left, a transition (or a flat rule) taken, a state entered.
 pub data Tag : Type 0 where
   leave : Tag
-  take : Tag
+  fire : Tag
   enter : Tag
 
 -- A step of a microstep: its items, and the state words that it sets (place, word) when the microstep ends.
@@ -96,17 +96,17 @@ setAll (p ∷ ps) l = setAll ps (set l (p .0) (p .1))
 
 abbrev pub isLeave : Tag → ℕ
 isLeave leave = 1
-isLeave take = 0
+isLeave fire = 0
 isLeave enter = 0
 
-abbrev pub isTake : Tag → ℕ
-isTake leave = 0
-isTake take = 1
-isTake enter = 0
+abbrev pub isFire : Tag → ℕ
+isFire leave = 0
+isFire fire = 1
+isFire enter = 0
 
 abbrev pub isEnter : Tag → ℕ
 isEnter leave = 0
-isEnter take = 0
+isEnter fire = 0
 isEnter enter = 1
 
 abbrev pub count : (Tag → ℕ) → List Step → ℕ
@@ -120,7 +120,7 @@ pub record St : Type 0 where
   pub env : Env
   pub micro : ℕ
   pub left : ℕ
-  pub taken : ℕ
+  pub fired : ℕ
   pub entered : ℕ
 
 unfoldable pub after : List Step → St → Env → St
@@ -129,13 +129,13 @@ after xs s v = record {
   env = v;
   micro = suc (s .micro);
   left = s .left + count isLeave xs;
-  taken = s .taken + count isTake xs;
+  fired = s .fired + count isFire xs;
   entered = s .entered + count isEnter xs;
 }
 
 -- One microstep: all items of its steps in order, then the words.
 unfoldable pub steps : ℕ → List Step → St → Result St
-steps room xs s = items room (doesOf xs) (s .env) >>= λ v. ok (after xs s v)
+steps pairs xs s = items pairs (doesOf xs) (s .env) >>= λ v. ok (after xs s v)
 
 unfoldable pub withQueue : List ℕ → St → St
 withQueue q s = record {
@@ -143,7 +143,7 @@ withQueue q s = record {
   env = record { vars = s .env .vars; outs = s .env .outs; queue = q };
   micro = s .micro;
   left = s .left;
-  taken = s .taken;
+  fired = s .fired;
   entered = s .entered;
 }
 
@@ -155,9 +155,9 @@ next events go (k ∷ q) s = go (events + k) (withQueue q s)
 
 -- 23: "signals wait after 64 microsteps": here after as many as the first number says.
 unfoldable pub loop : ℕ → ℕ → ℕ → Machine → ℕ → St → Result St
-loop zero events room m e s = refuse Microsteps
-loop (suc more) events room m e s =
-    steps room (m e (s .words) (s .env .vars)) s >>= λ s′. next events (loop more events room m) (s′ .env .queue) s′
+loop zero events pairs m e s = refuse Microsteps
+loop (suc more) events pairs m e s =
+    steps pairs (m e (s .words) (s .env .vars)) s >>= λ s′. next events (loop more events pairs m) (s′ .env .queue) s′
 
 -- 01, One macrostep, 1: "The event is the first trigger; the signal queue is empty."
 unfoldable pub start : List ℕ → List ℕ → St
@@ -166,9 +166,9 @@ start words vars = record {
   env = record { vars = vars; outs = []; queue = [] };
   micro = 0;
   left = 0;
-  taken = 0;
+  fired = 0;
   entered = 0;
 }
 
 unfoldable pub macrostep : ℕ → ℕ → Machine → ℕ → List ℕ → List ℕ → Result St
-macrostep events room m e words vars = loop 64 events room m e (start words vars)
+macrostep events pairs m e words vars = loop 64 events pairs m e (start words vars)

@@ -15,15 +15,15 @@ use Rattle.table.specs.declared.Item.{Item}
 use Rattle.table.specs.declared.Item.the-variants.{Emit, Raise, WrapAdd, SatAdd, Set, Log}
 use Rattle.table.specs.declared.Refusal.{Refusal}
 use Rattle.table.specs.declared.Refusal.the-variants.{Signals as signals, Outputs as outputs, Microsteps as microsteps}
-use Rattle.effects.specs.Run.{Tag, leave, take, enter, Step, Machine, setAll}
+use Rattle.effects.specs.Run.{Tag, leave, fire, enter, Step, Machine, setAll}
 use Rattle.effects.specs.declared.Stop.{Stop}
 use Rattle.effects.specs.declared.Stop.the-variants.{Signals, Outputs, Microsteps}
 use Rattle.effects.specs.declared.Progress.{Progress}
 
 -- ---- what is counted, in two numbers of 64 bits
 -- From bit 40 on the transitions taken, or the rules fired; from bit 20 on the states left; below, the states entered.
-abbrev pub takenOf : Progress → ℕ
-takenOf n = n .counts / 1099511627776
+abbrev pub firedOf : Progress → ℕ
+firedOf n = n .counts / 1099511627776
 
 abbrev pub leftOf : Progress → ℕ
 leftOf n = n .counts / 1048576 % 1048576
@@ -85,9 +85,9 @@ further x n = record { counts = n .counts; rest = plus (n .rest) x }
 
 -- one output more, where there is room
 unfoldable pub doEmit : ℕ → ℕ → ℕ → Progress × List ℕ → Progress × List ℕ
-doEmit room a v w =
+doEmit pairs a v w =
     let n = w .0 in
-    cond (leb room (outsOf n))
+    cond (leb pairs (outsOf n))
     (stopAt Outputs n, w .1)
     (further 1 n, set (set (w .1) (2 * outsOf n) a) (2 * outsOf n + 1) v)
 
@@ -109,17 +109,17 @@ abbrev pub onVar : ℕ → (ℕ → ℕ) → Work → Work
 onVar a f w = work (w .n) (set (w .vars) a (f (getD (w .vars) a 0))) (w .outs) (w .queue)
 
 unfoldable pub doItem : ℕ → Item → Work → Work
-doItem room (Emit a) w = onOuts (doEmit room a 0) w
-doItem room (Raise k) w = onQueue (doRaise (k .0)) w
-doItem room (WrapAdd a b) w = onVar a (λ x. wrapAdd x b) w
-doItem room (SatAdd a b) w = onVar a (λ x. satAdd x b) w
-doItem room (Set a b) w = onVar a (λ x. b) w
-doItem room (Log a b) w = onOuts (doEmit room a (getD (w .vars) b 0)) w
+doItem pairs (Emit a) w = onOuts (doEmit pairs a 0) w
+doItem pairs (Raise k) w = onQueue (doRaise (k .0)) w
+doItem pairs (WrapAdd a b) w = onVar a (λ x. wrapAdd x b) w
+doItem pairs (SatAdd a b) w = onVar a (λ x. satAdd x b) w
+doItem pairs (Set a b) w = onVar a (λ x. b) w
+doItem pairs (Log a b) w = onOuts (doEmit pairs a (getD (w .vars) b 0)) w
 
 -- items in order, up to a stop
 unfoldable pub doItems : ℕ → List Item → Work → Work
-doItems room [] w = w
-doItems room (x ∷ xs) w = cond (stopped? (w .n)) w (doItems room xs (doItem room x w))
+doItems pairs [] w = w
+doItems pairs (x ∷ xs) w = cond (stopped? (w .n)) w (doItems pairs xs (doItem pairs x w))
 
 -- the items whose words begin at `at`, one after the other
 unfoldable pub itemsFrom : List ℕ → ℕ → ℕ → List Item
@@ -140,7 +140,7 @@ pub record ItemsIn (t : List ℕ) (base at : ℕ) : Type 0 where
 -- one step of a kind
 abbrev pub one : Tag → ℕ
 one leave = 1048576
-one take = 1099511627776
+one fire = 1099511627776
 one enter = 1
 
 -- so much more of what `counts` counts
@@ -162,11 +162,11 @@ abbrev pub tagged : Tag → Work → Work
 tagged g w = work (counted g (w .n)) (w .vars) (w .outs) (w .queue)
 
 unfoldable pub doStep : ℕ → Step → Going → Going
-doStep room x g = record { does = doItems room (x .does) (tagged (x .tag) (g .does)); words = setAll (x .sets) (g .words) }
+doStep pairs x g = record { does = doItems pairs (x .does) (tagged (x .tag) (g .does)); words = setAll (x .sets) (g .words) }
 
 unfoldable pub doSteps : ℕ → List Step → Going → Going
-doSteps room [] g = g
-doSteps room (x ∷ xs) g = doSteps room xs (doStep room x g)
+doSteps pairs [] g = g
+doSteps pairs (x ∷ xs) g = doSteps pairs xs (doStep pairs x g)
 
 -- ---- a macrostep
 abbrev pub microDone : Progress → Progress
@@ -183,8 +183,8 @@ unfoldable pub ended? : Progress → Bool
 ended? n = stopped? n || eqb (headOf n) (tailOf n)
 
 unfoldable pub turns : ℕ → ℕ → ℕ → Machine → ℕ → Going → Going
-turns zero events room m e g = onN (stopAt Microsteps) g
-turns (suc f) events room m e g =
-    let h = onN microDone (doSteps room (m e (g .words) (g .does .vars)) g) in
+turns zero events pairs m e g = onN (stopAt Microsteps) g
+turns (suc f) events pairs m e g =
+    let h = onN microDone (doSteps pairs (m e (g .words) (g .does .vars)) g) in
     cond (ended? (h .does .n)) h
-    (turns f events room m (events + getD (h .does .queue) (headOf (h .does .n) % 32) 0) (onN popped h))
+    (turns f events pairs m (events + getD (h .does .queue) (headOf (h .does .n) % 32) 0) (onN popped h))

@@ -3,8 +3,8 @@
 ghost use mathlib.Core.Path.{_≡_};
 ghost use Prim.Native.Nat.{_+_, _*_, _%_, _<_, _≤_};
 ghost use lib.ListN.{length, getD, set};
-ghost use Rattle.effects.specs.Run.{leave, take, enter};
-ghost use Rattle.effects.specs.Work.{work, takenOf, leftOf, enteredOf, microOf, tailOf, headOf, outsOf, stopped?, bitsOf, stopAt, further, more, doEmit, doRaise, doItem, doItems, itemsFrom, spanItems, ItemsIn, counted, microDone, popped, ended?, fresh, refusalOf};
+ghost use Rattle.effects.specs.Run.{leave, fire, enter};
+ghost use Rattle.effects.specs.Work.{work, firedOf, leftOf, enteredOf, microOf, tailOf, headOf, outsOf, stopped?, bitsOf, stopAt, further, more, doEmit, doRaise, doItem, doItems, itemsFrom, spanItems, ItemsIn, counted, microDone, popped, ended?, fresh, refusalOf};
 use table::Item;
 use table::Refusal;
 use table::Signal;
@@ -26,7 +26,7 @@ pub struct Progress {
 }
 
 // One more of what is counted.
-const ONE_TAKEN: u64 = 1099511627776;
+const ONE_FIRED: u64 = 1099511627776;
 
 const ONE_LEFT: u64 = 1048576;
 
@@ -52,10 +52,10 @@ fn bits_of(stop: Stop) -> u64
 }
 
 // The transitions taken, or the rules fired.
-pub fn taken_of(n: Progress) -> u32
-    ensures { λ r. ⌜ r ≡ takenOf n ⌝ }
+pub fn fired_of(n: Progress) -> u32
+    ensures { λ r. ⌜ r ≡ firedOf n ⌝ }
 {
-    (n.counts / ONE_TAKEN) as u32
+    (n.counts / ONE_FIRED) as u32
 }
 
 // The states left.
@@ -168,11 +168,11 @@ fn put_byte(queue: &mut [u8], i: usize, v: u8)
 }
 
 // One output more: a number and a value.
-fn emit(a: u16, v: u16, room: usize, outs: &mut [u16], n: Progress) -> Progress
-    ensures { λ r. ⌜ (r, now (outs .exit)) ≡ doEmit room a v (n, now (outs .entry)) ⌝ }
+fn emit(a: u16, v: u16, pairs: usize, outs: &mut [u16], n: Progress) -> Progress
+    ensures { λ r. ⌜ (r, now (outs .exit)) ≡ doEmit pairs a v (n, now (outs .entry)) ⌝ }
 {
     let k = wide(outs_of(n));
-    if room <= k {
+    if pairs <= k {
         return stop_at(Stop::Outputs, n);
     }
     words::put(outs, 2 * k, a);
@@ -195,16 +195,16 @@ fn raise(k: Signal, queue: &mut [u8], n: Progress) -> Progress
 // What one item does: one case decides.
 fn do_item(
     item: Item,
-    room: usize,
+    pairs: usize,
     vars: &mut [u16],
     outs: &mut [u16],
     queue: &mut [u8],
     n: Progress,
 ) -> Progress
-    ensures { λ r. ⌜ work r (now (vars .exit)) (now (outs .exit)) (now (queue .exit)) ≡ doItem room item (work n (now (vars .entry)) (now (outs .entry)) (now (queue .entry))) ⌝ }
+    ensures { λ r. ⌜ work r (now (vars .exit)) (now (outs .exit)) (now (queue .exit)) ≡ doItem pairs item (work n (now (vars .entry)) (now (outs .entry)) (now (queue .entry))) ⌝ }
 {
     match item {
-        Item::Emit(a) => emit(a, 0, room, outs, n),
+        Item::Emit(a) => emit(a, 0, pairs, outs, n),
         Item::Raise(k) => raise(k, queue, n),
         Item::WrapAdd(a, b) => {
             let i = words::wide(a);
@@ -224,7 +224,7 @@ fn do_item(
         }
         Item::Log(a, b) => {
             let x = words::word(vars, words::wide(b));
-            emit(a, x, room, outs, n)
+            emit(a, x, pairs, outs, n)
         }
     }
 }
@@ -234,14 +234,14 @@ pub fn run_items(
     t: &[u16],
     first: usize,
     count: usize,
-    room: usize,
+    pairs: usize,
     vars: &mut [u16],
     outs: &mut [u16],
     queue: &mut [u8],
     n: Progress,
 ) -> Progress
     requires { ⌜ first + 3 * count ≤ length (now t) ⌝ }
-    ensures { λ r. ⌜ work r (now (vars .exit)) (now (outs .exit)) (now (queue .exit)) ≡ doItems room (itemsFrom (now (t .entry)) first count) (work n (now (vars .entry)) (now (outs .entry)) (now (queue .entry))) ⌝ }
+    ensures { λ r. ⌜ work r (now (vars .exit)) (now (outs .exit)) (now (queue .exit)) ≡ doItems pairs (itemsFrom (now (t .entry)) first count) (work n (now (vars .entry)) (now (outs .entry)) (now (queue .entry))) ⌝ }
 {
     let mut m = n;
     let mut at = first;
@@ -250,7 +250,7 @@ pub fn run_items(
         if is_stopped(m) {
             return m;
         }
-        m = do_item(table::item_at(t, at), room, vars, outs, queue, m);
+        m = do_item(table::item_at(t, at), pairs, vars, outs, queue, m);
         at += 3;
         left -= 1;
     }
@@ -262,18 +262,18 @@ pub fn run_span(
     t: &[u16],
     base: usize,
     at: usize,
-    room: usize,
+    pairs: usize,
     vars: &mut [u16],
     outs: &mut [u16],
     queue: &mut [u8],
     n: Progress,
 ) -> Progress
     requires { ⌜ ItemsIn (now t) base at ⌝ }
-    ensures { λ r. ⌜ work r (now (vars .exit)) (now (outs .exit)) (now (queue .exit)) ≡ doItems room (spanItems (now (t .entry)) base at) (work n (now (vars .entry)) (now (outs .entry)) (now (queue .entry))) ⌝ }
+    ensures { λ r. ⌜ work r (now (vars .exit)) (now (outs .exit)) (now (queue .exit)) ≡ doItems pairs (spanItems (now (t .entry)) base at) (work n (now (vars .entry)) (now (outs .entry)) (now (queue .entry))) ⌝ }
 {
     let first = words::number_in(t, base) + 3 * words::number_in(t, at);
     let count = words::number_in(t, at + 1);
-    run_items(t, first, count, room, vars, outs, queue, n)
+    run_items(t, first, count, pairs, vars, outs, queue, n)
 }
 
 // A state is left.
@@ -284,10 +284,10 @@ pub fn count_leave(n: Progress) -> Progress
 }
 
 // A transition is taken, or a flat rule fires.
-pub fn count_take(n: Progress) -> Progress
-    ensures { λ r. ⌜ r ≡ counted take n ⌝ }
+pub fn count_fire(n: Progress) -> Progress
+    ensures { λ r. ⌜ r ≡ counted fire n ⌝ }
 {
-    grown(n, ONE_TAKEN)
+    grown(n, ONE_FIRED)
 }
 
 // A state is entered.

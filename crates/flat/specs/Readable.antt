@@ -2,7 +2,8 @@
 use Prim.Native.Nat.{ℕ, _+_, _*_, _≤_}
 use mathlib.Core.List.{List}
 use lib.ListN.{length}
-use Rattle.flat.specs.View.{at, flatView, guardAt, literalAt, ruleAt}
+use Rattle.table.specs.Layout.{at}
+use Rattle.flat.specs.View.{flatView, guardAt, literalAt, ruleAt}
 
 pub record FlatReadable (t : List ℕ) : Type 0 where
   pub header : 18 ≤ length t

@@ -2,11 +2,11 @@
 use Prim.Native.Nat.{ℕ, _+_, _*_}
 use mathlib.Core.Bool.{Bool, _&&_}
 use mathlib.Core.List.{List}
-use lib.ListN.{getD}
 use lib.Dec.{eqb, ltb}
 use Rattle.table.specs.Triple.{Triple, tripleAt}
 use Rattle.table.specs.Span.{Span, spanAt}
-use Rattle.table.specs.declared.Counts.{Counts}
+use Rattle.table.specs.Layout.{at}
+use Rattle.table.specs.declared.ItemCounts.{ItemCounts}
 
 -- A flat table: its counts, and its records by their numbers. Whatever a flat table means is said over this.
 pub record Flat : Type 0 where
@@ -33,10 +33,6 @@ pub record Flat : Type 0 where
   pub second-guard : ℕ → ℕ
   pub does : ℕ → Span
   pub target : ℕ → ℕ
-
--- Word i of a table.
-abbrev pub at : List ℕ → ℕ → ℕ
-at t i = getD t i 0
 
 -- Where guard k's words begin, literal i's, and rule k's: header words 12 to 17 are the offsets of the sections.
 abbrev pub guardAt : List ℕ → ℕ → ℕ
@@ -76,9 +72,9 @@ flatView t = record {
 }
 
 -- The counts that items are judged by.
-abbrev pub countsOf : Flat → Counts
-countsOf f = record { signals = f .signals; outputs = f .outputs; variables = f .variables }
+abbrev pub flatItemCounts : Flat → ItemCounts
+flatItemCounts f = record { signals = f .signals; outputs = f .outputs; variables = f .variables }
 
 -- The number of a state of machine m.
-abbrev pub stateOf? : Flat → ℕ → ℕ → Bool
-stateOf? f m j = ltb j (f .states) && eqb (f .machine j) m
+abbrev pub ofMachine? : Flat → ℕ → ℕ → Bool
+ofMachine? f m j = ltb j (f .states) && eqb (f .machine j) m

@@ -4,7 +4,8 @@
 ghost use mathlib.Core.Path.{_≡_};
 ghost use Prim.Native.Nat.{_+_, _*_, _<_};
 ghost use lib.ListN.{length};
-ghost use Rattle.flat.specs.View.{at, flatView, guardAt, literalAt, ruleAt, stateOf?};
+ghost use Rattle.table.specs.Layout.{at};
+ghost use Rattle.flat.specs.View.{flatView, guardAt, literalAt, ruleAt, ofMachine?};
 ghost use Rattle.flat.specs.Readable.{FlatReadable};
 ghost use Rattle.flat.specs.Literals.{flatLiteralOf, flatLiteralIn};
 
@@ -85,9 +86,9 @@ pub fn machine_of(t: &[u16], j: usize) -> usize
 }
 
 // Whether j is the number of a state of machine m.
-pub fn is_state_of(t: &[u16], m: usize, j: usize) -> bool
+pub fn is_of_machine(t: &[u16], m: usize, j: usize) -> bool
     requires { ⌜ FlatReadable (now t) ⌝ }
-    ensures { λ r. ⌜ r ≡ stateOf? (flatView (now (t .entry))) m j ⌝ }
+    ensures { λ r. ⌜ r ≡ ofMachine? (flatView (now (t .entry))) m j ⌝ }
 {
     if j < head(t, STATES) {
         return machine_of(t, j) == m;

@@ -6,19 +6,19 @@ use native.Mathlib.Omega.{arith}
 use lib.Dec.{ltb}
 use Rattle.words.specs.Logic.{Iff}
 use Rattle.words.proofs.Tests.{by-bool, ltb-lt, ltb-ge}
-use Rattle.table.specs.Check.{ruleAt, Kept}
+use Rattle.table.specs.Check.{ruleNumbered, Kept}
 use Rattle.table.proofs.Check.{AllKept, none, also, each, accepted, accepting}
 use Rattle.flat.specs.View.{flatView}
 use Rattle.flat_rules.specs.Rules.{FlatRules}
 use Rattle.flat_check.specs.Answer.{flatRules, flatAnswer}
-use Rattle.flat_check.specs.RuleByRule.{Keeps, RulesNumbered}
+use Rattle.flat_check.specs.RuleByRule.{KeepsFlat, FlatRulesNumbered}
 use Rattle.flat_check.proofs.RuleByRule.{numbered}
 
 module _ (t : List ℕ) where
-  rule : RulesNumbered t
+  rule : FlatRulesNumbered t
   rule = numbered t
 
-  kept-rules : ((k : ℕ) → k < 8 → Kept (ruleAt (flatRules t) k)) → FlatRules t
+  kept-rules : ((k : ℕ) → k < 8 → Kept (ruleNumbered (flatRules t) k)) → FlatRules t
   kept-rules kept = record {
     form = rule .form .0 (kept 0 (omega arith) 0 (omega arith));
     counts = rule .counts .0 (kept 1 (omega arith) 0 (omega arith));
@@ -32,7 +32,7 @@ module _ (t : List ℕ) where
   }
 
   -- a place of rule 14 is a machine's, or machines + a state's
-  machines-kept : FlatRules t → (p : ℕ) → p < flatView t .machines + flatView t .states → Keeps t 3 p
+  machines-kept : FlatRules t → (p : ℕ) → p < flatView t .machines + flatView t .states → KeepsFlat t 3 p
   machines-kept g p h =
       by-bool (ltb p (flatView t .machines))
       (λ e. let l = ltb-lt p (flatView t .machines) e in rule .machines p l .1 (g .machines p l))
@@ -40,7 +40,7 @@ module _ (t : List ℕ) where
       let j = p - flatView t .machines in
       let place : flatView t .machines + j ≡ p = omega arith in
       let i : j < flatView t .states = omega arith in
-      subst (Keeps t 3) place (rule .states j i .1 (g .states j i)))
+      subst (KeepsFlat t 3) place (rule .states j i .1 (g .states j i)))
 
   rules-kept : FlatRules t → AllKept (flatRules t)
   rules-kept g =

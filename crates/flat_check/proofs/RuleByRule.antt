@@ -6,9 +6,9 @@ use Rattle.words.proofs.Tells.{iff}
 use Rattle.flat.specs.View.{flatView}
 use Rattle.flat_head.proofs.Told.{form, counts, layout}
 use Rattle.flat_rules.proofs.Told.{at-machine, at-state, span, guard, item, rule}
-use Rattle.flat_check.specs.RuleByRule.{RulesNumbered}
+use Rattle.flat_check.specs.RuleByRule.{FlatRulesNumbered}
 
-pub numbered : (t : List ℕ) → RulesNumbered t
+pub numbered : (t : List ℕ) → FlatRulesNumbered t
 numbered t =
     let f = flatView t in
     record {

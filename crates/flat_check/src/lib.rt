@@ -3,7 +3,7 @@
 ghost use mathlib.Core.Path.{_≡_};
 ghost use Prim.Native.Nat.{_<_, _≤_};
 ghost use Rattle.table.specs.Answers.{told};
-ghost use Rattle.table.specs.Check.{ruleAt, lowestBad, KeptBefore};
+ghost use Rattle.table.specs.Check.{ruleNumbered, lowestBad, KeptBefore};
 ghost use Rattle.flat_check.specs.Answer.{flatRules, flatAnswer};
 use flat_head::good_counts;
 use flat_head::good_form;
@@ -18,8 +18,8 @@ use words::number;
 
 // Whether place i keeps rule k, counted from 0, where the rules before it are kept.
 fn keeps(t: &[u16], k: usize, i: usize) -> bool
-    requires { ⌜ (k < 8) × (i < ruleAt (flatRules (now t)) k .places) × KeptBefore (flatRules (now t)) k ⌝ }
-    ensures { λ r. ⌜ r ≡ ruleAt (flatRules (now (t .entry))) k .keeps i ⌝ }
+    requires { ⌜ (k < 8) × (i < ruleNumbered (flatRules (now t)) k .places) × KeptBefore (flatRules (now t)) k ⌝ }
+    ensures { λ r. ⌜ r ≡ ruleNumbered (flatRules (now (t .entry))) k .keeps i ⌝ }
 {
     match k {
         0 => good_form(t),
@@ -36,7 +36,7 @@ fn keeps(t: &[u16], k: usize, i: usize) -> bool
 // How many places rule k judges.
 fn places_of(t: &[u16], k: usize) -> usize
     requires { ⌜ k < 8 ⌝ }
-    ensures is { λ r. ⌜ r ≡ ruleAt (flatRules (now (t .entry))) k .places ⌝ }
+    ensures is { λ r. ⌜ r ≡ ruleNumbered (flatRules (now (t .entry))) k .places ⌝ }
     ensures small { λ r. ⌜ r < 200000 ⌝ }
 {
     match k {
@@ -53,8 +53,8 @@ fn places_of(t: &[u16], k: usize) -> usize
 
 // The lowest place that breaks rule k, where the rules before it are kept; all its places, where none does.
 fn lowest_bad(t: &[u16], k: usize, places: usize) -> usize
-    requires { ⌜ (k < 8) × (places < 200000) × (places ≡ ruleAt (flatRules (now t)) k .places) × KeptBefore (flatRules (now t)) k ⌝ }
-    ensures is { λ r. ⌜ r ≡ lowestBad (ruleAt (flatRules (now (t .entry))) k) ⌝ }
+    requires { ⌜ (k < 8) × (places < 200000) × (places ≡ ruleNumbered (flatRules (now t)) k .places) × KeptBefore (flatRules (now t)) k ⌝ }
+    ensures is { λ r. ⌜ r ≡ lowestBad (ruleNumbered (flatRules (now (t .entry))) k) ⌝ }
     ensures small { λ r. ⌜ r ≤ places ⌝ }
 {
     let mut i = 0;

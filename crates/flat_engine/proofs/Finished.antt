@@ -9,12 +9,12 @@ use Rattle.table.specs.declared.Refusal.{Refusal}
 use Rattle.effects.specs.declared.Progress.{Progress}
 use Rattle.effects.specs.Run.{Result, St, macrostep}
 use Rattle.effects.specs.Work.{stopped?, refusalOf}
-use Rattle.effects.specs.Lent.{roomFor}
+use Rattle.effects.specs.Lent.{pairsFor}
 use Rattle.macrostep.specs.Ends.{Ends, ended, halted}
 use Rattle.flat.specs.View.{flatView}
 use Rattle.flat_meaning.specs.Steps.{flatMachine}
 use Rattle.flat_meaning.specs.Calls.{flatFinished, flatRanOn}
-use Rattle.flat_engine.specs.Told.{flatRanTold, flatCountsOf}
+use Rattle.flat_engine.specs.Told.{flatRanTold, finishedFlatCounts}
 use Rattle.flat_engine.specs.declared.FlatCounts.{FlatCounts}
 use Rattle.flat_engine.specs.declared.FlatRun.the-variants.{Done, Refused}
 
@@ -25,16 +25,16 @@ module _ (state outputs : List ℕ) (n : Progress) (state′ outputs′ : List �
   stopped-told (ended d) e = clash (stopped? n) e (d .goes-on)
 
   ended-told : {meant : Result St} → Ends (λ w. w) state outputs n state′ outputs′ meant → stopped? n ≡ false
-      → flatRanTold (Done (flatCountsOf n)) state′ outputs′ ≡ flatFinished meant state outputs
-  ended-told (ended d) e = rw (d .micro, d .taken, d .given, d .state-is, d .outs-are) refl
+      → flatRanTold (Done (finishedFlatCounts n)) state′ outputs′ ≡ flatFinished meant state outputs
+  ended-told (ended d) e = rw (d .micro, d .fired, d .given, d .state-is, d .outs-are) refl
   ended-told (halted h) e = clash (stopped? n) (h .halts) e
 
   -- The macrostep is that of the state.
   module _ (t : List ℕ) (event k : ℕ) (words-are : k ≡ flatView t .machines)
       (ends : Ends (λ w. w) state outputs n state′ outputs′
-      (macrostep (flatView t .events) (roomFor (length outputs)) (flatMachine (flatView t)) event (take k state) (drop k state))) where
+      (macrostep (flatView t .events) (pairsFor (length outputs)) (flatMachine (flatView t)) event (take k state) (drop k state))) where
     ran : flatFinished
-        (macrostep (flatView t .events) (roomFor (length outputs)) (flatMachine (flatView t)) event (take k state) (drop k state))
+        (macrostep (flatView t .events) (pairsFor (length outputs)) (flatMachine (flatView t)) event (take k state) (drop k state))
         state outputs ≡ flatRanOn (flatView t) state event outputs
     unfolding flatRanOn
     ran = rw words-are refl
@@ -43,6 +43,6 @@ module _ (state outputs : List ℕ) (n : Progress) (state′ outputs′ : List �
         → flatRanTold (Refused r) state′ outputs′ ≡ flatRanOn (flatView t) state event outputs
     run-stopped h r is = ap (λ (x : Refusal). flatRanTold (Refused x) state′ outputs′) is ∙ stopped-told ends h ∙ ran
 
-    pub run-done : stopped? n ≡ false → (counts : FlatCounts) → counts ≡ flatCountsOf n
+    pub run-done : stopped? n ≡ false → (counts : FlatCounts) → counts ≡ finishedFlatCounts n
         → flatRanTold (Done counts) state′ outputs′ ≡ flatRanOn (flatView t) state event outputs
     run-done h counts is = ap (λ (m : FlatCounts). flatRanTold (Done m) state′ outputs′) is ∙ ended-told ends h ∙ ran

@@ -2,7 +2,7 @@
 use Prim.Native.Nat.{ℕ}
 use mathlib.Core.List.{List}
 use Rattle.table.specs.Answers.{refusalTold}
-use Rattle.effects.specs.Work.{microOf, takenOf, outsOf}
+use Rattle.effects.specs.Work.{microOf, firedOf, outsOf}
 use Rattle.effects.specs.declared.Progress.{Progress}
 use Rattle.flat_meaning.specs.Calls.{FlatRan, refusedFlatRun}
 use Rattle.flat_engine.specs.declared.FlatCounts.{FlatCounts}
@@ -21,5 +21,5 @@ flatRanTold (Done n) state outputs = record {
 flatRanTold (Refused r) state outputs = refusedFlatRun (refusalTold r) state outputs
 
 -- What is reported of a finished macrostep.
-abbrev pub flatCountsOf : Progress → FlatCounts
-flatCountsOf n = record { microsteps = microOf n; fired = takenOf n; outputs = outsOf n }
+abbrev pub finishedFlatCounts : Progress → FlatCounts
+finishedFlatCounts n = record { microsteps = microOf n; fired = firedOf n; outputs = outsOf n }

@@ -11,7 +11,7 @@ ghost use Rattle.flat_rules.specs.Rules.{FlatRules};
 ghost use Rattle.flat_check.specs.Answer.{flatAnswer};
 ghost use Rattle.flat_meaning.specs.State.{goodFlatWord?, flatLength, flatStateOf?, flatStartWords};
 ghost use Rattle.flat_meaning.specs.Calls.{flatStartedOn, startFlat, flatRanOn, flatRanAccepted, runFlat};
-ghost use Rattle.flat_engine.specs.Told.{flatRanTold, flatCountsOf};
+ghost use Rattle.flat_engine.specs.Told.{flatRanTold, finishedFlatCounts};
 use effects::Progress;
 use table::Refusal;
 use table::Trigger;
@@ -38,7 +38,7 @@ fn good_words(t: &[u16], current: &[u16]) -> bool
     let machines = flat::head(t, flat::MACHINES);
     let mut m = 0;
     while m < machines {
-        if !flat::is_state_of(t, m, words::number(current, m)) {
+        if !flat::is_of_machine(t, m, words::number(current, m)) {
             return false;
         }
         m += 1;
@@ -59,12 +59,12 @@ fn is_state(t: &[u16], state: &[u16]) -> bool
 }
 
 // What is reported of a finished macrostep.
-fn counts_of(n: Progress) -> FlatCounts
-    ensures { λ r. ⌜ r ≡ flatCountsOf n ⌝ }
+fn finished_counts(n: Progress) -> FlatCounts
+    ensures { λ r. ⌜ r ≡ finishedFlatCounts n ⌝ }
 {
     FlatCounts {
         microsteps: effects::micro_of(n),
-        fired: effects::taken_of(n),
+        fired: effects::fired_of(n),
         outputs: effects::outs_of(n),
     }
 }
@@ -85,7 +85,7 @@ fn run_state(
     if effects::is_stopped(n) {
         return FlatRun::Refused(effects::refusal_of(n));
     }
-    FlatRun::Done(counts_of(n))
+    FlatRun::Done(finished_counts(n))
 }
 
 // One event on a lent state, where the flat table is accepted.

@@ -5,9 +5,9 @@ use mathlib.Core.List.{List}
 use native.Mathlib.Omega.{arith}
 use Rattle.flat.specs.View.{flatView}
 use Rattle.flat.specs.Readable.{FlatReadable}
-use Rattle.flat_head.specs.Rules.{GoodForm, GoodCounts, GoodLayout}
+use Rattle.flat_head.specs.Rules.{GoodFlatForm, GoodFlatCounts, GoodFlatLayout}
 
-pub readable : {t : List ℕ} → GoodForm t → GoodCounts (flatView t) → GoodLayout t → FlatReadable t
+pub readable : {t : List ℕ} → GoodFlatForm t → GoodFlatCounts (flatView t) → GoodFlatLayout t → FlatReadable t
 readable f n l = record {
   header = f .header;
   machines = omega (arith, f .total, l .states, l .guards, l .literals, l .items, l .rules, l .total);

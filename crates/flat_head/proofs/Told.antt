@@ -4,21 +4,22 @@ use mathlib.Core.List.{List}
 use lib.ListN.{length}
 use Rattle.words.proofs.Tells.{Tells, eq, le, said, _and_}
 use Rattle.table.proofs.Headers.{between, follow}
-use Rattle.flat.specs.View.{Flat, at}
-use Rattle.flat_head.specs.Rules.{GoodForm, GoodCounts, GoodLayout}
-use Rattle.flat_head.specs.Tests.{goodForm?, goodCounts?, goodLayout?}
+use Rattle.table.specs.Layout.{at}
+use Rattle.flat.specs.View.{Flat}
+use Rattle.flat_head.specs.Rules.{GoodFlatForm, GoodFlatCounts, GoodFlatLayout}
+use Rattle.flat_head.specs.Tests.{goodFlatForm?, goodFlatCounts?, goodFlatLayout?}
 
 -- ---- rule 11
-pub form : (t : List ℕ) → Tells (goodForm? t) (GoodForm t)
-unfolding goodForm?
+pub form : (t : List ℕ) → Tells (goodFlatForm? t) (GoodFlatForm t)
+unfolding goodFlatForm?
 form t =
     said (le 18 (length t) and eq (at t 0) 2 and eq (at t 1) (length t))
     (λ r. record { header = r .0; form = r .1 .0; total = r .1 .1 })
     (λ g. (g .header, (g .form, g .total)))
 
 -- ---- rule 12
-pub counts : (f : Flat) → Tells (goodCounts? f) (GoodCounts f)
-unfolding goodCounts?
+pub counts : (f : Flat) → Tells (goodFlatCounts? f) (GoodFlatCounts f)
+unfolding goodFlatCounts?
 counts f =
     said
     ((between 1 24 (f .machines) and between 1 47 (f .states) and between 1 32 (f .events))
@@ -43,8 +44,8 @@ counts f =
     ))
 
 -- ---- rule 13
-pub layout : (t : List ℕ) → Tells (goodLayout? t) (GoodLayout t)
-unfolding goodLayout?
+pub layout : (t : List ℕ) → Tells (goodFlatLayout? t) (GoodFlatLayout t)
+unfolding goodFlatLayout?
 layout t =
     said
     ((eq (at t 12) 18 and follow t 13 12 1 2 and follow t 14 13 1 3)

@@ -4,8 +4,8 @@ ghost use mathlib.Core.Path.{_≡_};
 ghost use Prim.Native.Nat.{_≤_};
 ghost use lib.ListN.{length};
 ghost use Rattle.flat.specs.View.{flatView};
-ghost use Rattle.flat_head.specs.Tests.{goodForm?, stateCounts?, nameCounts?, listCounts?, goodCounts?};
-ghost use Rattle.flat_head.specs.Tests.{frontLayout?, backLayout?, goodLayout?};
+ghost use Rattle.flat_head.specs.Tests.{goodFlatForm?, stateCounts?, nameFlatCounts?, listFlatCounts?, goodFlatCounts?};
+ghost use Rattle.flat_head.specs.Tests.{frontFlatLayout?, backFlatLayout?, goodFlatLayout?};
 use table::count_between;
 use table::follows;
 use words::both;
@@ -14,7 +14,7 @@ use words::number_in;
 
 // Rule 11: a header, form 2, and the total that the slice has.
 pub fn good_form(t: &[u16]) -> bool
-    ensures { λ r. ⌜ r ≡ goodForm? (now (t .entry)) ⌝ }
+    ensures { λ r. ⌜ r ≡ goodFlatForm? (now (t .entry)) ⌝ }
 {
     both(
         18 <= t.len(),
@@ -35,7 +35,7 @@ fn state_counts(t: &[u16]) -> bool
 // Rule 12: signals, outputs, variables.
 fn name_counts(t: &[u16]) -> bool
     requires { ⌜ 18 ≤ length (now t) ⌝ }
-    ensures { λ r. ⌜ r ≡ nameCounts? (flatView (now (t .entry))) ⌝ }
+    ensures { λ r. ⌜ r ≡ nameFlatCounts? (flatView (now (t .entry))) ⌝ }
 {
     let first = count_between(t, flat::SIGNALS, 0, 32);
     let second = count_between(t, flat::OUTPUTS, 0, 64);
@@ -48,7 +48,7 @@ fn name_counts(t: &[u16]) -> bool
 // Rule 12: guards, literals, items, rules.
 fn list_counts(t: &[u16]) -> bool
     requires { ⌜ 18 ≤ length (now t) ⌝ }
-    ensures { λ r. ⌜ r ≡ listCounts? (flatView (now (t .entry))) ⌝ }
+    ensures { λ r. ⌜ r ≡ listFlatCounts? (flatView (now (t .entry))) ⌝ }
 {
     let guards = count_between(t, flat::GUARDS, 0, 2351);
     let literals = count_between(t, flat::LITERALS, 0, 6166);
@@ -60,7 +60,7 @@ fn list_counts(t: &[u16]) -> bool
 // Rule 12: every count is in its range.
 pub fn good_counts(t: &[u16]) -> bool
     requires { ⌜ 18 ≤ length (now t) ⌝ }
-    ensures { λ r. ⌜ r ≡ goodCounts? (flatView (now (t .entry))) ⌝ }
+    ensures { λ r. ⌜ r ≡ goodFlatCounts? (flatView (now (t .entry))) ⌝ }
 {
     both(state_counts(t), both(name_counts(t), list_counts(t)))
 }
@@ -68,7 +68,7 @@ pub fn good_counts(t: &[u16]) -> bool
 // Rule 13: machines behind the header, states behind them, then guards.
 fn front_layout(t: &[u16]) -> bool
     requires { ⌜ 18 ≤ length (now t) ⌝ }
-    ensures { λ r. ⌜ r ≡ frontLayout? (now (t .entry)) ⌝ }
+    ensures { λ r. ⌜ r ≡ frontFlatLayout? (now (t .entry)) ⌝ }
 {
     let machines = number_in(t, flat::MACHINES_AT) == 18;
     let states = follows(t, flat::STATES_AT, flat::MACHINES_AT, 1, flat::MACHINES);
@@ -79,7 +79,7 @@ fn front_layout(t: &[u16]) -> bool
 // Rule 13: literals behind the guards, then items, then rules, and the total behind them.
 fn back_layout(t: &[u16]) -> bool
     requires { ⌜ 18 ≤ length (now t) ⌝ }
-    ensures { λ r. ⌜ r ≡ backLayout? (now (t .entry)) ⌝ }
+    ensures { λ r. ⌜ r ≡ backFlatLayout? (now (t .entry)) ⌝ }
 {
     let literals = follows(t, flat::LITERALS_AT, flat::GUARDS_AT, 2, flat::GUARDS);
     let items = follows(t, flat::ITEMS_AT, flat::LITERALS_AT, 3, flat::LITERALS);
@@ -91,7 +91,7 @@ fn back_layout(t: &[u16]) -> bool
 // Rule 13: the sections follow the header without gaps, and the table ends with the last.
 pub fn good_layout(t: &[u16]) -> bool
     requires { ⌜ 18 ≤ length (now t) ⌝ }
-    ensures { λ r. ⌜ r ≡ goodLayout? (now (t .entry)) ⌝ }
+    ensures { λ r. ⌜ r ≡ goodFlatLayout? (now (t .entry)) ⌝ }
 {
     both(front_layout(t), back_layout(t))
 }

@@ -3,7 +3,7 @@ ghost use mathlib.Core.Path.{_≡_};
 ghost use Prim.Native.Nat.{_+_, _*_, _≤_};
 ghost use lib.ListN.{length, take, drop};
 ghost use Rattle.effects.specs.Run.{macrostep};
-ghost use Rattle.effects.specs.Lent.{roomFor};
+ghost use Rattle.effects.specs.Lent.{pairsFor};
 ghost use Rattle.effects.specs.Work.{going, turns, fresh};
 ghost use Rattle.flat.specs.View.{flatView};
 ghost use Rattle.flat_rules.specs.Rules.{FlatRules};
@@ -20,7 +20,7 @@ fn go(
     t: &[u16],
     marks: &mut [u16],
     event: Trigger,
-    room: usize,
+    pairs: usize,
     next: &mut [u16],
     vars: &mut [u16],
     outs: &mut [u16],
@@ -28,14 +28,14 @@ fn go(
     n: Progress,
 ) -> Progress
     requires { ⌜ FlatRules (now t) × (flatView (now t) .guards ≤ 16 * length (now marks)) × (length (now next) ≡ flatView (now t) .machines) ⌝ }
-    ensures { λ r. ⌜ going r (now (next .exit)) (now (vars .exit)) (now (outs .exit)) (now (queue .exit)) ≡ turns 64 (flatView (now (t .entry)) .events) room (flatMachine (flatView (now (t .entry)))) (event .0) (going n (now (next .entry)) (now (vars .entry)) (now (outs .entry)) (now (queue .entry))) ⌝ }
+    ensures { λ r. ⌜ going r (now (next .exit)) (now (vars .exit)) (now (outs .exit)) (now (queue .exit)) ≡ turns 64 (flatView (now (t .entry)) .events) pairs (flatMachine (flatView (now (t .entry)))) (event .0) (going n (now (next .entry)) (now (vars .entry)) (now (outs .entry)) (now (queue .entry))) ⌝ }
 {
     let events = words::word_in(t, flat::EVENTS);
     let mut m = n;
     let mut e = event;
     let mut left = 64u32;
     while 0 < left {
-        m = rules::run(t, marks, e, room, next, vars, outs, queue, m);
+        m = flat_microstep::run(t, marks, e, pairs, next, vars, outs, queue, m);
         m = effects::count_micro(m);
         if effects::has_ended(m) {
             return m;
@@ -54,14 +54,14 @@ fn attempt(
     marks: &mut [u16],
     state: &[u16],
     event: Trigger,
-    room: usize,
+    pairs: usize,
     next: &mut [u16],
     vars: &mut [u16],
     outs: &mut [u16],
     queue: &mut [u8],
 ) -> Progress
     requires { ⌜ FlatRules (now t) × Sized (flatView (now t)) (now marks) (now state) (now next) (now vars) (now queue) ⌝ }
-    ensures { λ r. ⌜ going r (now (next .exit)) (now (vars .exit)) (now (outs .exit)) (now (queue .exit)) ≡ turns 64 (flatView (now (t .entry)) .events) room (flatMachine (flatView (now (t .entry)))) (event .0) (going fresh (take (length (now (next .entry))) (now (state .entry))) (drop (length (now (next .entry))) (now (state .entry))) (now (outs .entry)) (now (queue .entry))) ⌝ }
+    ensures { λ r. ⌜ going r (now (next .exit)) (now (vars .exit)) (now (outs .exit)) (now (queue .exit)) ≡ turns 64 (flatView (now (t .entry)) .events) pairs (flatMachine (flatView (now (t .entry)))) (event .0) (going fresh (take (length (now (next .entry))) (now (state .entry))) (drop (length (now (next .entry))) (now (state .entry))) (now (outs .entry)) (now (queue .entry))) ⌝ }
 {
     copies::load(next, state, 0);
     copies::load(vars, state, next.len());
@@ -69,7 +69,7 @@ fn attempt(
         t,
         marks,
         event,
-        room,
+        pairs,
         next,
         vars,
         outs,
@@ -92,10 +92,10 @@ fn pass(
     queue: &mut [u8],
 ) -> Progress
     requires { ⌜ FlatRules (now t) × Sized (flatView (now t)) (now marks) (now state) (now next) (now vars) (now queue) × (length (now kept) ≤ length (now outputs)) ⌝ }
-    ensures { λ r. ⌜ Ends (λ words. words) (now (state .entry)) (now (outputs .entry)) r (handed (λ words. words) r (now (next .exit)) (now (vars .exit)) (now (state .entry))) (now (outputs .exit)) (macrostep (flatView (now (t .entry)) .events) (roomFor (length (now (outputs .entry)))) (flatMachine (flatView (now (t .entry)))) (event .0) (take (length (now (next .entry))) (now (state .entry))) (drop (length (now (next .entry))) (now (state .entry)))) ⌝ }
+    ensures { λ r. ⌜ Ends (λ words. words) (now (state .entry)) (now (outputs .entry)) r (handed (λ words. words) r (now (next .exit)) (now (vars .exit)) (now (state .entry))) (now (outputs .exit)) (macrostep (flatView (now (t .entry)) .events) (pairsFor (length (now (outputs .entry)))) (flatMachine (flatView (now (t .entry)))) (event .0) (take (length (now (next .entry))) (now (state .entry))) (drop (length (now (next .entry))) (now (state .entry)))) ⌝ }
 {
     let all = outputs.len();
-    let room = copies::room_of(all);
+    let pairs = copies::pairs_of(all);
     let first = kept.len();
     copies::load(kept, outputs, 0);
     let mut lent = first;
@@ -105,7 +105,7 @@ fn pass(
             marks,
             state,
             event,
-            room,
+            pairs,
             next,
             vars,
             &mut outputs[..lent],
@@ -135,7 +135,7 @@ fn run_on(
     queue: &mut [u8],
 ) -> Progress
     requires { ⌜ FlatRules (now t) × Sized (flatView (now t)) (now marks) (now state) (now next) (now vars) (now queue) × (length (now kept) ≤ length (now outputs)) ⌝ }
-    ensures { λ r. ⌜ Ends (λ words. words) (now (state .entry)) (now (outputs .entry)) r (now (state .exit)) (now (outputs .exit)) (macrostep (flatView (now (t .entry)) .events) (roomFor (length (now (outputs .entry)))) (flatMachine (flatView (now (t .entry)))) (event .0) (take (length (now (next .entry))) (now (state .entry))) (drop (length (now (next .entry))) (now (state .entry)))) ⌝ }
+    ensures { λ r. ⌜ Ends (λ words. words) (now (state .entry)) (now (outputs .entry)) r (now (state .exit)) (now (outputs .exit)) (macrostep (flatView (now (t .entry)) .events) (pairsFor (length (now (outputs .entry)))) (flatMachine (flatView (now (t .entry)))) (event .0) (take (length (now (next .entry))) (now (state .entry))) (drop (length (now (next .entry))) (now (state .entry)))) ⌝ }
 {
     let n = pass(t, marks, state, event, outputs, next, vars, kept, queue);
     if effects::is_stopped(n) {
@@ -157,7 +157,7 @@ pub fn run(
     outputs: &mut [u16],
 ) -> Progress
     requires { ⌜ FlatRules (now t) × (flatView (now t) .guards ≤ 16 * length (now marks)) × (words ≡ flatView (now t) .machines) × (words ≤ 24) × (words ≤ length (now state)) × (length (now state) ≤ words + 16) ⌝ }
-    ensures { λ r. ⌜ Ends (λ words. words) (now (state .entry)) (now (outputs .entry)) r (now (state .exit)) (now (outputs .exit)) (macrostep (flatView (now (t .entry)) .events) (roomFor (length (now (outputs .entry)))) (flatMachine (flatView (now (t .entry)))) (event .0) (take words (now (state .entry))) (drop words (now (state .entry)))) ⌝ }
+    ensures { λ r. ⌜ Ends (λ words. words) (now (state .entry)) (now (outputs .entry)) r (now (state .exit)) (now (outputs .exit)) (macrostep (flatView (now (t .entry)) .events) (pairsFor (length (now (outputs .entry)))) (flatMachine (flatView (now (t .entry)))) (event .0) (take words (now (state .entry))) (drop words (now (state .entry)))) ⌝ }
 {
     let v = state.len() - words;
     let first = macrostep::first_of(outputs.len());

@@ -8,9 +8,9 @@ use Rattle.words.specs.Loops.{tab, many, all}
 use Rattle.words.proofs.Loops.{tab-at, tab-same}
 use Rattle.flat.specs.View.{Flat, flatView}
 use Rattle.flat.specs.Literals.{flatLiteralOf, flatLiteralIn}
-use Rattle.flat_rules.specs.Rules.{GoodLiteral, current, not-current, at-least, less, holds, fails}
+use Rattle.flat_rules.specs.Rules.{GoodFlatLiteral, current, not-current, at-least, less, holds, fails}
 use Rattle.flat_rules.specs.Rules.{GoodGuard}
-use Rattle.flat_meaning.specs.Guards.{holdsFlat, literalsOf, allHold, inCells, valueAt, values}
+use Rattle.flat_meaning.specs.Guards.{holdsFlat, flatLiteralsOf, allHold, inCells, valueAt, values}
 use Rattle.flat_meaning.specs.Theorems.{GuardsMean}
 
 -- two tests that agree on a span's things
@@ -27,7 +27,7 @@ module _ {A : Type 0} (p q : A → Bool) (g : ℕ → A) where
 module _ (f : Flat) (words vars : List ℕ) where
   -- two accounts of the guards that agree below k: guard k's literals hold by one where they hold by the other
   module _ (k : ℕ) (p q : ℕ → Bool) (agree : (a : ℕ) → a < k → p a ≡ q a) where
-    literal-same : (kind a b : ℕ) → GoodLiteral f k kind a b
+    literal-same : (kind a b : ℕ) → GoodFlatLiteral f k kind a b
         → holdsFlat f words vars p (flatLiteralOf kind a b) ≡ holdsFlat f words vars q (flatLiteralOf kind a b)
     unfolding holdsFlat flatLiteralOf
     literal-same _ a _ (current h) = refl
@@ -38,7 +38,7 @@ module _ (f : Flat) (words vars : List ℕ) where
     literal-same _ a _ (fails h) = ap not (agree a h)
 
     pub guard-same : GoodGuard f k → allHold f words vars p k ≡ allHold f words vars q k
-    unfolding allHold literalsOf
+    unfolding allHold flatLiteralsOf
     guard-same g =
         all-many-cong (holdsFlat f words vars p) (holdsFlat f words vars q) (λ i. flatLiteralIn (f .literal i))
         (f .asks k .first) (f .asks k .count) (λ i l. literal-same _ _ _ (g i l))

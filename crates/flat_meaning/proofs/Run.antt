@@ -8,7 +8,7 @@ use lib.ListN.{length}
 use lib.Dec.{eqb, ltb}
 use Rattle.words.proofs.Tests.{by-bool, eqb-yes, clash}
 use Rattle.effects.specs.Run.{Result, ok, refuse, Step, setsOf, setAll, St, macrostep}
-use Rattle.effects.specs.Lent.{roomFor}
+use Rattle.effects.specs.Lent.{pairsFor}
 use Rattle.effects.proofs.Stops.{setAll-append}
 use Rattle.effects.proofs.Keeps.{Holds, done, refused, Kept, macrostep-keeps}
 use Rattle.flat.specs.View.{Flat, flatView}
@@ -58,10 +58,10 @@ kept-state f v k = state-made f (v .words) (v .env .vars) (k .words) (k .vars)
 
 module _ (f : Flat) (good : (k : ℕ) → k < f .rules → GoodRule f k) (state : List ℕ)
     (s : flatStateOf? f state ≡ true) where
-  pub run-kept : (e room : ℕ)
-      → Holds (RunKept f) (macrostep (f .events) room (flatMachine f) e (flatWordsOf f state) (flatVarsOf f state))
-  run-kept e room =
-      macrostep-keeps (Owned f) (f .variables) (f .events) room (flatMachine f) (microstep-owned f good) e
+  pub run-kept : (e pairs : ℕ)
+      → Holds (RunKept f) (macrostep (f .events) pairs (flatMachine f) e (flatWordsOf f state) (flatVarsOf f state))
+  run-kept e pairs =
+      macrostep-keeps (Owned f) (f .variables) (f .events) pairs (flatMachine f) (microstep-owned f good) e
       (flatWordsOf f state) (flatVarsOf f state) (state-owned f state s) (vars-length f state s)
 
   finish : (r : Result St) (outputs : List ℕ) → Holds (RunKept f) r
@@ -75,19 +75,19 @@ held a (done p) = p
 
 -- the words and variables that a macrostep gives make a state
 pub macrostep-state : {t : List ℕ} → FlatRules t → (state : List ℕ) → flatStateOf? (flatView t) state ≡ true
-    → (e room : ℕ) (v : St)
+    → (e pairs : ℕ) (v : St)
     → let f = flatView t in
-    macrostep (f .events) room (flatMachine f) e (flatWordsOf f state) (flatVarsOf f state) ≡ ok v
+    macrostep (f .events) pairs (flatMachine f) e (flatWordsOf f state) (flatVarsOf f state) ≡ ok v
     → flatStateOf? f (v .words ++ v .env .vars) ≡ true
-macrostep-state {t} r state s e room v is =
+macrostep-state {t} r state s e pairs v is =
     let f = flatView t in
-    kept-state f v (held v (subst (Holds (RunKept f)) is (run-kept f (r .rules) state s e room)))
+    kept-state f v (held v (subst (Holds (RunKept f)) is (run-kept f (r .rules) state s e pairs)))
 
 pub flat-run-leaves-state : FlatRunLeavesState
 unfolding runFlat flatRanAccepted flatRanOn
 flat-run-leaves-state flat r state s event outputs =
     let f = flatView flat in
-    let kept = run-kept f (r .rules) state s event (roomFor (length outputs)) in
+    let kept = run-kept f (r .rules) state s event (pairsFor (length outputs)) in
     by-bool (eqb (flatAnswer flat .0) 0)
     (λ a. by-bool (ltb event (f .events)) (λ b. rw (a, s, b) (finish f (r .rules) state s _ outputs kept))
     (λ b. rw (a, s, b) s))

@@ -5,7 +5,7 @@ use native.Mathlib.Omega.{arith}
 use lib.ListN.{length}
 use Rattle.effects.specs.Run.{Step}
 use Rattle.effects.proofs.Raised.{AllSmall, Tame, steps-small, span-small}
-use Rattle.flat.specs.View.{flatView, countsOf}
+use Rattle.flat.specs.View.{flatView, flatItemCounts}
 use Rattle.flat_rules.specs.Rules.{FlatRules}
 use Rattle.flat_meaning.specs.Steps.{flatItemsOf, ruleStep, flatMachine}
 use Rattle.flat_meaning.proofs.Steps.{StepOf, microstep-rule, microstep-few}
@@ -20,7 +20,7 @@ unfolding ruleStep flatItemsOf
 rule-small {t} r x s =
     let f = flatView t in
     let inside = r .rules (s .rule) (s .below) .items in
-    rw (s .is) (span-small (countsOf f) (f .item) (f .items) (r .counts .signals .1) (r .items) (f .does (s .rule)) inside)
+    rw (s .is) (span-small (flatItemCounts f) (f .item) (f .items) (r .counts .signals .1) (r .items) (f .does (s .rule)) inside)
 
 pub flat-machine-tame : {t : List ℕ} → FlatRules t → Tame (flatMachine (flatView t))
 flat-machine-tame {t} r e words vars =

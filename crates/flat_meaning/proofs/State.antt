@@ -13,7 +13,7 @@ use Rattle.words.proofs.Many.{many-length, many-at}
 use Rattle.words.proofs.Lists.{set-either}
 use Rattle.effects.specs.Lent.{zeros}
 use Rattle.effects.proofs.Calls.{zeros-length}
-use Rattle.flat.specs.View.{Flat, flatView, stateOf?}
+use Rattle.flat.specs.View.{Flat, flatView, ofMachine?}
 use Rattle.flat_rules.specs.Rules.{GoodMachine}
 use Rattle.flat_meaning.specs.State.{flatLength, flatWordsOf, flatVarsOf, goodFlatWord?, flatStateOf?}
 use Rattle.flat_meaning.specs.State.{flatStartWords, flatStartState}
@@ -22,7 +22,7 @@ use Rattle.flat_meaning.specs.Theorems.{FlatStartIsState}
 -- a word for each machine, which is a state of it
 pub record Owned (f : Flat) (words : List ℕ) : Type 0 where
   pub long : length words ≡ f .machines
-  pub own : (m : ℕ) → m < f .machines → stateOf? f m (getD words m 0) ≡ true
+  pub own : (m : ℕ) → m < f .machines → ofMachine? f m (getD words m 0) ≡ true
 
 module _ (f : Flat) where
   -- ---- words and variables of a state
@@ -48,7 +48,7 @@ module _ (f : Flat) where
   owned-set words j h o = record {
     long = length-set words (f .machine j) j ∙ o .long;
     own = λ m l.
-        set-either (λ (v : ℕ). stateOf? f m v ≡ true) words (f .machine j) m j 0
+        set-either (λ (v : ℕ). ofMachine? f m v ≡ true) words (f .machine j) m j 0
         (λ e. and-i (ltb-yes j (f .states) h) (eqb-yes (sym e))) (o .own m l);
   }
 

@@ -7,7 +7,7 @@ use lib.Dec.{eqb, ltb}
 use Rattle.table.specs.Answers.{refusalTold}
 use Rattle.table.specs.declared.Refusal.the-variants.{NoEvent, State}
 use Rattle.effects.specs.Run.{Result, ok, refuse, St, written, macrostep}
-use Rattle.effects.specs.Lent.{roomFor, Started}
+use Rattle.effects.specs.Lent.{pairsFor, Started}
 use Rattle.flat.specs.View.{Flat, flatView}
 use Rattle.flat_check.specs.Answer.{flatAnswer}
 use Rattle.flat_meaning.specs.State.{flatLength, flatWordsOf, flatVarsOf, flatStateOf?, flatStartState}
@@ -37,13 +37,12 @@ pub record FlatRan : Type 0 where
 abbrev pub refusedFlatRun : ℕ × ℕ → List ℕ → List ℕ → FlatRan
 refusedFlatRun a state outputs = record { answer = a; microsteps = 0; fired = 0; given = 0; state = state; outputs = outputs }
 
--- A rule that fires is a step that is counted as taken.
 abbrev pub flatFinished : Result St → List ℕ → List ℕ → FlatRan
 flatFinished (refuse r) state outputs = refusedFlatRun (refusalTold r) state outputs
 flatFinished (ok s) state outputs = record {
   answer = (0, 0);
   microsteps = s .micro;
-  fired = s .taken;
+  fired = s .fired;
   given = length (s .env .outs);
   state = s .words ++ s .env .vars;
   outputs = written 0 (s .env .outs) outputs;
@@ -52,7 +51,7 @@ flatFinished (ok s) state outputs = record {
 -- One event on a state of an accepted flat table. "Queue and limits are as above".
 unfoldable pub flatRanOn : Flat → List ℕ → ℕ → List ℕ → FlatRan
 flatRanOn f state event outputs =
-    flatFinished (macrostep (f .events) (roomFor (length outputs)) (flatMachine f) event (flatWordsOf f state) (flatVarsOf f state)) state outputs
+    flatFinished (macrostep (f .events) (pairsFor (length outputs)) (flatMachine f) event (flatWordsOf f state) (flatVarsOf f state)) state outputs
 
 -- 01, Order: the table, then 24, then 20, then the run's 21 to 23 as met.
 unfoldable pub flatRanAccepted : Flat → List ℕ → ℕ → List ℕ → FlatRan

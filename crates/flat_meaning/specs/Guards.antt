@@ -24,12 +24,12 @@ holdsFlat f words vars known (Less a b) = below (getD vars a 0) b
 holdsFlat f words vars known (Holds a) = known a
 holdsFlat f words vars known (Fails a) = not (known a)
 
-unfoldable pub literalsOf : Flat → ℕ → List FlatLiteral
-literalsOf f k = many (λ i. flatLiteralIn (f .literal i)) (f .asks k .first) (f .asks k .count)
+unfoldable pub flatLiteralsOf : Flat → ℕ → List FlatLiteral
+flatLiteralsOf f k = many (λ i. flatLiteralIn (f .literal i)) (f .asks k .first) (f .asks k .count)
 
 -- "A guard with no literals is true."
 unfoldable pub allHold : Flat → List ℕ → List ℕ → (ℕ → Bool) → ℕ → Bool
-allHold f words vars known k = all (holdsFlat f words vars known) (literalsOf f k)
+allHold f words vars known k = all (holdsFlat f words vars known) (flatLiteralsOf f k)
 
 -- A list of values as a test.
 abbrev pub inCells : List Bool → ℕ → Bool

@@ -8,7 +8,7 @@ use mathlib.Core.Path.{_≡_, refl}
 use mathlib.Core.List.{List, [], _∷_}
 use Rattle.flat_check.specs.Answer.{flatAnswer}
 use Rattle.flat_meaning.specs.Calls.{startFlat, runFlat}
-use Rattle.flat_meaning.specs.Opened.{opened}
+use Rattle.flat_meaning.specs.Opened.{flatOpened}
 
 -- The table, but for the guard that a literal of guard 3 names. The sections, in their order:
 -- header: form, total, 2 machines, 5 states, 1 event, 1 signal, 2 outputs, 1 variable, 5 guards, 6 literals, 4 items, 5 rules,
@@ -49,11 +49,11 @@ abbrev pub overridden : List ℕ
 overridden = naming 2
 
 pub a-flat-table : flatAnswer overridden ≡ (0, 0)
-unfolding opened
+unfolding flatOpened
 a-flat-table = refl
 
 pub starts : startFlat overridden (9 ∷ 9 ∷ 9 ∷ []) ≡ record { answer = (0, 0); state = 0 ∷ 3 ∷ 0 ∷ [] }
-unfolding opened
+unfolding flatOpened
 starts = refl
 
 -- output 0 with the value 1 by rule 1, then output 1 by rule 3; the word lent past them stays
@@ -66,10 +66,10 @@ pub runs : runFlat overridden (0 ∷ 3 ∷ 0 ∷ []) 0 (9 ∷ 9 ∷ 9 ∷ 9 ∷ 
       state = 2 ∷ 4 ∷ 1 ∷ [];
       outputs = 0 ∷ 1 ∷ 1 ∷ 0 ∷ 9 ∷ [];
     }
-unfolding opened
+unfolding flatOpened
 runs = refl
 
 -- a literal of guard 3 that names guard 3
 pub names-itself : flatAnswer (naming 3) ≡ (16, 3)
-unfolding opened
+unfolding flatOpened
 names-itself = refl

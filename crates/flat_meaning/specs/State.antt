@@ -6,7 +6,7 @@ use lib.ListN.{length, getD, take, drop}
 use lib.Dec.{eqb}
 use Rattle.words.specs.Loops.{many, allBelow}
 use Rattle.effects.specs.Lent.{zeros}
-use Rattle.flat.specs.View.{Flat, stateOf?}
+use Rattle.flat.specs.View.{Flat, ofMachine?}
 
 -- 01, Flat words: "State words: per machine any state of it, then variables."
 unfoldable pub flatLength : Flat → ℕ
@@ -19,7 +19,7 @@ abbrev pub flatVarsOf : Flat → List ℕ → List ℕ
 flatVarsOf f state = drop (f .machines) state
 
 unfoldable pub goodFlatWord? : Flat → List ℕ → ℕ → Bool
-goodFlatWord? f words m = stateOf? f m (getD words m 0)
+goodFlatWord? f words m = ofMachine? f m (getD words m 0)
 
 -- The opposite of 24: "state of wrong length, or not a state of this table".
 unfoldable pub flatStateOf? : Flat → List ℕ → Bool

@@ -7,7 +7,7 @@ use Rattle.words.specs.Loops.{joinUp, many, when}
 use Rattle.table.specs.Items.{itemIn}
 use Rattle.table.specs.Span.{Span}
 use Rattle.table.specs.declared.Item.{Item}
-use Rattle.effects.specs.Run.{Step, Machine, take}
+use Rattle.effects.specs.Run.{Step, Machine, fire}
 use Rattle.flat.specs.View.{Flat}
 use Rattle.flat_meaning.specs.Guards.{inCells, values}
 
@@ -21,7 +21,7 @@ targetSet f k = when (not (eqb (f .target k) 65535)) (f .machine (f .target k), 
 
 -- 01: "the rule fires, its items run"; of the targets "a later rule for that machine prevails".
 unfoldable pub ruleStep : Flat → ℕ → Step
-ruleStep f k = record { tag = take; does = flatItemsOf f (f .does k); sets = targetSet f k }
+ruleStep f k = record { tag = fire; does = flatItemsOf f (f .does k); sets = targetSet f k }
 
 -- 01: "Rules in order: where the trigger matches and both guards hold, the rule fires". `known` says which guards are true.
 unfoldable pub fires? : Flat → ℕ → (ℕ → Bool) → ℕ → Bool

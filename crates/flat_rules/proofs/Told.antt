@@ -8,12 +8,12 @@ use Rattle.words.proofs.Tests.{by-bool, ltb-yes, ltb-lt, ltb-no, or-l, or-r, or
 use Rattle.words.proofs.Tells.{Tells, eq, lt, le, said, _and_, choose, every}
 use Rattle.table.specs.Span.{Span, Inside, inside?}
 use Rattle.table.proofs.Items as Items
-use Rattle.flat.specs.View.{Flat, countsOf}
+use Rattle.flat.specs.View.{Flat, flatItemCounts}
 use Rattle.flat_rules.specs.Rules.{GoodMachine, GoodState, GoodSpan}
-use Rattle.flat_rules.specs.Rules.{GoodLiteral, current, not-current, at-least, less, holds, fails}
-use Rattle.flat_rules.specs.Rules.{LiteralKept, GoodGuard, ItemKept, GoodRule}
-use Rattle.flat_rules.specs.Tests.{goodMachines?, goodSpan?, stateLiteral?, guardLiteral?, goodLiteral?}
-use Rattle.flat_rules.specs.Tests.{literalKept, goodGuard?, itemKept, goodRule?}
+use Rattle.flat_rules.specs.Rules.{GoodFlatLiteral, current, not-current, at-least, less, holds, fails}
+use Rattle.flat_rules.specs.Rules.{FlatLiteralKept, GoodGuard, FlatItemKept, GoodRule}
+use Rattle.flat_rules.specs.Tests.{goodMachines?, goodSpan?, stateLiteral?, guardLiteral?, goodFlatLiteral?}
+use Rattle.flat_rules.specs.Tests.{flatLiteralKept, goodGuard?, flatItemKept, goodRule?}
 
 -- one test or the other
 module _ {a b : Bool} {X Y : Type 0} where
@@ -54,8 +54,8 @@ module _ (f : Flat) where
     of-guard : (kind a b : ℕ) → Tells (guardLiteral? k kind a b) ((kind < 6) × ((a < k) × (b ≡ 0)))
     of-guard kind a b = lt kind 6 and lt a k and eq b 0
 
-    literal-told : (kind a b : ℕ) → goodLiteral? f k kind a b ≡ true → GoodLiteral f k kind a b
-    unfolding goodLiteral?
+    literal-told : (kind a b : ℕ) → goodFlatLiteral? f k kind a b ≡ true → GoodFlatLiteral f k kind a b
+    unfolding goodFlatLiteral?
     literal-told zero a b e = let r = of-state a b .told e in rw (r .1) (current (r .0))
     literal-told (suc zero) a b e = let r = of-state a b .told e in rw (r .1) (not-current (r .0))
     literal-told (suc (suc zero)) a b e = at-least (ltb-lt a (f .variables) e)
@@ -68,8 +68,8 @@ module _ (f : Flat) where
         (λ r. ⊎-elim (λ q. absurd (omega arith)) (λ q. absurd (omega arith)) (r .1))
         (choose (lt kind 2) (of-state a b) (choose (lt kind 4) (lt a (f .variables)) (of-guard kind a b)) .told e)
 
-    literal-tells : (kind a b : ℕ) → GoodLiteral f k kind a b → goodLiteral? f k kind a b ≡ true
-    unfolding goodLiteral?
+    literal-tells : (kind a b : ℕ) → GoodFlatLiteral f k kind a b → goodFlatLiteral? f k kind a b ≡ true
+    unfolding goodFlatLiteral?
     literal-tells _ a _ (current h) = of-state a 0 .tells (h, refl)
     literal-tells _ a _ (not-current h) = of-state a 0 .tells (h, refl)
     literal-tells _ a b (at-least h) = ltb-yes a (f .variables) h
@@ -77,7 +77,7 @@ module _ (f : Flat) where
     literal-tells _ a _ (holds h) = of-guard 4 a 0 .tells (omega arith, (h, refl))
     literal-tells _ a _ (fails h) = of-guard 5 a 0 .tells (omega arith, (h, refl))
 
-    pub literal : (i : ℕ) → Tells (literalKept f k i) (LiteralKept f k i)
+    pub literal : (i : ℕ) → Tells (flatLiteralKept f k i) (FlatLiteralKept f k i)
     literal i =
         let w = f .literal i in
         record { told = literal-told (w .kind) (w .a) (w .b); tells = literal-tells (w .kind) (w .a) (w .b) }
@@ -87,8 +87,8 @@ module _ (f : Flat) where
     guard = every (f .asks k .count) (λ i. literal (f .asks k .first + i))
 
   -- ---- rule 17
-  pub item : (i : ℕ) → Tells (itemKept f i) (ItemKept f i)
-  item i = Items.item (countsOf f) (f .item i .kind) (f .item i .a) (f .item i .b)
+  pub item : (i : ℕ) → Tells (flatItemKept f i) (FlatItemKept f i)
+  item i = Items.item (flatItemCounts f) (f .item i .kind) (f .item i .a) (f .item i .b)
 
   -- ---- rule 18
   pub rule : (k : ℕ) → Tells (goodRule? f k) (GoodRule f k)

@@ -5,10 +5,10 @@ ghost use Prim.Native.Nat.{_+_, _<_};
 ghost use Rattle.flat.specs.View.{flatView};
 ghost use Rattle.flat.specs.Readable.{FlatReadable};
 ghost use Rattle.flat_rules.specs.Rules.{GoodSpan};
-ghost use Rattle.flat_rules.specs.Tests.{goodMachine?, goodState?, goodMachines?, goodSpan?};
-ghost use Rattle.flat_rules.specs.Tests.{guardLiteral?, literalKept, goodGuard?, itemKept};
-ghost use Rattle.flat_rules.specs.Tests.{goodTarget?, goodNames?, goodRule?};
-use table::Counts;
+ghost use Rattle.flat_rules.specs.Tests.{goodMachine?, goodFlatState?, goodMachines?, goodSpan?};
+ghost use Rattle.flat_rules.specs.Tests.{guardLiteral?, flatLiteralKept, goodGuard?, flatItemKept};
+ghost use Rattle.flat_rules.specs.Tests.{goodFlatTarget?, goodNames?, goodRule?};
+use table::ItemCounts;
 use table::span_inside;
 use words::both;
 use words::number_in;
@@ -18,13 +18,13 @@ fn good_machine(t: &[u16], m: usize) -> bool
     requires { ⌜ FlatReadable (now t) × (m < flatView (now t) .machines) ⌝ }
     ensures { λ r. ⌜ r ≡ goodMachine? (flatView (now (t .entry))) m ⌝ }
 {
-    flat::is_state_of(t, m, flat::initial_of(t, m))
+    flat::is_of_machine(t, m, flat::initial_of(t, m))
 }
 
 // Rule 14 for a state: its machine is one.
 fn good_state(t: &[u16], j: usize) -> bool
     requires { ⌜ FlatReadable (now t) × (j < flatView (now t) .states) ⌝ }
-    ensures { λ r. ⌜ r ≡ goodState? (flatView (now (t .entry))) j ⌝ }
+    ensures { λ r. ⌜ r ≡ goodFlatState? (flatView (now (t .entry))) j ⌝ }
 {
     flat::machine_of(t, j) < flat::head(t, flat::MACHINES)
 }
@@ -59,7 +59,7 @@ fn names_guard(k: usize, kind: usize, a: usize, b: usize) -> bool
 // Rule 16: literal i, held by guard k.
 fn good_literal(t: &[u16], k: usize, i: usize) -> bool
     requires { ⌜ FlatReadable (now t) × (i < flatView (now t) .literals) ⌝ }
-    ensures { λ r. ⌜ r ≡ literalKept (flatView (now (t .entry))) k i ⌝ }
+    ensures { λ r. ⌜ r ≡ flatLiteralKept (flatView (now (t .entry))) k i ⌝ }
 {
     let at = flat::literal_begin(t, i);
     let kind = number_in(t, at);
@@ -95,9 +95,9 @@ pub fn good_guard(t: &[u16], k: usize) -> bool
 // Rule 17.
 pub fn good_item(t: &[u16], i: usize) -> bool
     requires { ⌜ FlatReadable (now t) × (i < flatView (now t) .items) ⌝ }
-    ensures { λ r. ⌜ r ≡ itemKept (flatView (now (t .entry))) i ⌝ }
+    ensures { λ r. ⌜ r ≡ flatItemKept (flatView (now (t .entry))) i ⌝ }
 {
-    let counts = Counts {
+    let counts = ItemCounts {
         signals: words::word_in(t, flat::SIGNALS),
         outputs: words::word_in(t, flat::OUTPUTS),
         variables: words::word_in(t, flat::VARIABLES),
@@ -108,7 +108,7 @@ pub fn good_item(t: &[u16], i: usize) -> bool
 // Rule 18: the target is none or a state.
 fn good_target(t: &[u16], k: usize) -> bool
     requires { ⌜ FlatReadable (now t) × (k < flatView (now t) .rules) ⌝ }
-    ensures { λ r. ⌜ r ≡ goodTarget? (flatView (now (t .entry))) k ⌝ }
+    ensures { λ r. ⌜ r ≡ goodFlatTarget? (flatView (now (t .entry))) k ⌝ }
 {
     let target = flat::rule_word(t, k, flat::TARGET);
     if target == flat::NONE {

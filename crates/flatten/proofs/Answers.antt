@@ -16,7 +16,7 @@ use Rattle.chart_rules.specs.Rules.{ChartRules}
 use Rattle.chart_check.specs.Answer.{chartAnswer}
 use Rattle.chart_check.proofs.Exact.{exact}
 use Rattle.effects.proofs.Calls.{call-refused}
-use Rattle.flattening.specs.Room.{roomNeeded}
+use Rattle.flatten_meaning.specs.Room.{roomNeeded}
 use Rattle.flatten.specs.Wrote.{flattenAnswer, Wrote, refuses}
 use Rattle.flatten.specs.declared.Flattening.the-variants.{Refused}
 

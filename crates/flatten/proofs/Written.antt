@@ -8,18 +8,18 @@ use native.Mathlib.Omega.{arith}
 use lib.ListN.{length, length-append}
 use Rattle.chart.specs.View.{Chart, view}
 use Rattle.chart_rules.specs.Rules.{ChartRules}
-use Rattle.flattening.specs.Tables.{Table}
-use Rattle.flattening.specs.Flattened.{allGuards, flattened}
-use Rattle.flattening.specs.Encoded.{allLiterals, guardWords, literalWords, itemWords, ruleWords, header, encode}
-use Rattle.flattening.proofs.Encoded.{guard-words, literal-words, item-words, rule-words, encode-length}
-use Rattle.flattening.proofs.Machines.{machines-are, states-are, all-states}
-use Rattle.flattening.proofs.Bounds.{guards-bound, guards-few, literals-bound, literals-range, rules-bound, rules-few, total-in-room, room-few}
-use Rattle.laying.specs.Lay.{lay}
-use Rattle.laying.specs.Laid.{Laid}
-use Rattle.laying.proofs.Laid.{laid-as}
-use Rattle.guard_rows.specs.Parts.{literalsIn, part, moved}
-use Rattle.guard_rows.specs.declared.Pen.{Pen}
-use Rattle.heading.specs.Sizes.{heading}
+use Rattle.flatten_meaning.specs.Tables.{Table}
+use Rattle.flatten_meaning.specs.Flattened.{allGuards, flattened}
+use Rattle.flatten_meaning.specs.Encoded.{allLiterals, guardWords, literalWords, itemWords, ruleWords, header, encode}
+use Rattle.flatten_meaning.proofs.Encoded.{guard-words, literal-words, item-words, rule-words, encode-length}
+use Rattle.flatten_meaning.proofs.Machines.{machines-are, states-are, all-states}
+use Rattle.flatten_meaning.proofs.Bounds.{guards-bound, guards-few, literals-bound, literals-range, rules-bound, rules-few, total-in-room, room-few}
+use Rattle.flatten_laying.specs.Lay.{lay}
+use Rattle.flatten_laying.specs.Laid.{Laid}
+use Rattle.flatten_laying.proofs.Laid.{laid-as}
+use Rattle.flatten_guards.specs.Parts.{literalsIn, part, moved}
+use Rattle.flatten_guards.specs.declared.Pen.{Pen}
+use Rattle.flatten_head.specs.Sizes.{heading}
 use Rattle.flatten.specs.Numbers.{sections}
 
 -- ---- the guards' two sections

@@ -4,10 +4,10 @@ use mathlib.Core.Path.{_≡_}
 use mathlib.Core.Bool.{Bool}
 use mathlib.Core.List.{List, _++_}
 use Rattle.chart.specs.View.{Chart}
-use Rattle.flattening.specs.Tables.{Table}
-use Rattle.flattening.specs.Flattened.{enteredGuard}
-use Rattle.flattening.specs.Encoded.{guardWords, literalWords, itemWords, ruleWords}
-use Rattle.numbering.specs.Numbered.{AskedStates, AndRanks, ActiveNumbers, TakenNumbers}
+use Rattle.flatten_meaning.specs.Tables.{Table}
+use Rattle.flatten_meaning.specs.Flattened.{enteredGuard}
+use Rattle.flatten_meaning.specs.Encoded.{guardWords, literalWords, itemWords, ruleWords}
+use Rattle.flatten_numbers.specs.Numbered.{AskedStates, AndRanks, ActiveNumbers, TakenNumbers}
 
 -- Which states are asked for, the flat states of and-states, the guards of active states and of taken transitions, and the
 -- first guard's number behind these.

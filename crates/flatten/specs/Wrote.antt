@@ -11,10 +11,10 @@ use Rattle.table.specs.declared.Refusal.the-variants.{Room}
 use Rattle.chart.specs.View.{view}
 use Rattle.chart_rules.specs.Rules.{ChartRules}
 use Rattle.chart_check.specs.Answer.{chartAnswer}
-use Rattle.flattening.specs.Room.{roomNeeded}
-use Rattle.flattening.specs.Flattened.{flattened}
-use Rattle.flattening.specs.Encoded.{encode}
-use Rattle.laying.specs.Lay.{lay}
+use Rattle.flatten_meaning.specs.Room.{roomNeeded}
+use Rattle.flatten_meaning.specs.Flattened.{flattened}
+use Rattle.flatten_meaning.specs.Encoded.{encode}
+use Rattle.flatten_laying.specs.Lay.{lay}
 use Rattle.flatten.specs.declared.Flattening.{Flattening}
 use Rattle.flatten.specs.declared.Flattening.the-variants.{Done, Refused}
 

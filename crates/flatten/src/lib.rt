@@ -1,21 +1,21 @@
 // The flattener: writes the flat table of a chart into a room. What is written is `encode (flattened (view chart))`; the crate
-// `flattening` has the definitions, and the proof that this table does what the chart does.
+// `flatten_meaning` has the definitions, and the proof that this table does what the chart does.
 ghost use mathlib.Core.Path.{_≡_};
 ghost use Prim.Native.Nat.{_+_, _<_};
 ghost use lib.ListN.{length};
 ghost use Rattle.chart.specs.View.{view};
 ghost use Rattle.chart_rules.specs.Rules.{ChartRules};
 ghost use Rattle.states.specs.Cells.{cells};
-ghost use Rattle.meaning.specs.State.{orStates};
-ghost use Rattle.flattening.specs.Numbers.{andStates};
-ghost use Rattle.flattening.specs.Flattened.{flattened};
-ghost use Rattle.flattening.specs.Encoded.{encode};
-ghost use Rattle.laying.specs.Lay.{lay};
-ghost use Rattle.heading.specs.Sizes.{SizesOf};
+ghost use Rattle.chart_meaning.specs.State.{orStates};
+ghost use Rattle.flatten_meaning.specs.Numbers.{andStates};
+ghost use Rattle.flatten_meaning.specs.Flattened.{flattened};
+ghost use Rattle.flatten_meaning.specs.Encoded.{encode};
+ghost use Rattle.flatten_laying.specs.Lay.{lay};
+ghost use Rattle.flatten_head.specs.Sizes.{SizesOf};
 ghost use Rattle.flatten.specs.Numbers.{Numbers, sections};
 ghost use Rattle.flatten.specs.Wrote.{Wrote};
-use guard_rows::Pen;
-use heading::Sizes;
+use flatten_guards::Pen;
+use flatten_head::Sizes;
 use states::StateSet;
 use table::Refusal;
 use table::Verdict;
@@ -42,7 +42,7 @@ fn sizes_of(
 {
     let mut nothing = [0u16; 0];
     let start = Pen { at: 0, first: 0 };
-    let guards = guard_rows::lay_guards(
+    let guards = flatten_guards::lay_guards(
         true,
         t,
         asked,
@@ -53,7 +53,7 @@ fn sizes_of(
         &mut nothing,
         start,
     );
-    let rules = rule_rows::lay_rules(t, ands, actives, takens, first, &mut nothing, 0);
+    let rules = flatten_rules::lay_rules(t, ands, actives, takens, first, &mut nothing, 0);
     Sizes {
         machines: machines as u16,
         states: states as u16,
@@ -79,12 +79,22 @@ fn lay_sections(
     ensures room { λ r. ⌜ now (room .exit) ≡ lay at (sections (flattened (view (now (t .entry))))) (now (room .entry)) ⌝ }
 {
     let start = Pen { at: at, first: 0 };
-    let spans = guard_rows::lay_guards(true, t, asked, ands, actives, takens, first, room, start);
+    let spans = flatten_guards::lay_guards(
+        true,
+        t,
+        asked,
+        ands,
+        actives,
+        takens,
+        first,
+        room,
+        start,
+    );
     let behind = Pen {
         at: spans.at,
         first: 0,
     };
-    let literals = guard_rows::lay_guards(
+    let literals = flatten_guards::lay_guards(
         false,
         t,
         asked,
@@ -95,8 +105,8 @@ fn lay_sections(
         room,
         behind,
     );
-    let rules = heading::lay_items(t, room, literals.at);
-    rule_rows::lay_rules(t, ands, actives, takens, first, room, rules)
+    let rules = flatten_head::lay_items(t, room, literals.at);
+    flatten_rules::lay_rules(t, ands, actives, takens, first, room, rules)
 }
 
 // Lays the flat table of an accepted chart into the room, whose end it may pass, and says how many words it has.
@@ -109,13 +119,13 @@ fn lay_table(t: &[u16], room: &mut [u16]) -> u32
     let mut ands = [0u16; 48];
     let mut actives = [0u16; 48];
     let mut takens = [0u16; 48];
-    let machines = active::or_ranks(t, &mut ors);
-    let states = numbering::and_ranks(t, &mut ands);
-    let asked = sets::asked_set(t);
-    let guards = numbering::active_numbers(t, asked, &mut actives);
-    let first = numbering::taken_numbers(t, &actives, guards, &mut takens);
+    let machines = chart_active::or_ranks(t, &mut ors);
+    let states = flatten_numbers::and_ranks(t, &mut ands);
+    let asked = flatten_sets::asked_set(t);
+    let guards = flatten_numbers::active_numbers(t, asked, &mut actives);
+    let first = flatten_numbers::taken_numbers(t, &actives, guards, &mut takens);
     let sizes = sizes_of(t, asked, &ands, &actives, &takens, first, machines, states);
-    let at = heading::lay_heading(t, &ors, &ands, sizes, room);
+    let at = flatten_head::lay_heading(t, &ors, &ands, sizes, room);
     lay_sections(t, asked, &ands, &actives, &takens, first, room, at) as u32
 }
 
@@ -124,7 +134,7 @@ fn flatten_accepted(t: &[u16], room: &mut [u16]) -> Flattening
     requires { ⌜ ChartRules (now t) ⌝ }
     ensures { λ r. ⌜ Wrote (now (t .entry)) (now (room .entry)) r (now (room .exit)) ⌝ }
 {
-    if room.len() < heading::room_needed(t) {
+    if room.len() < flatten_head::room_needed(t) {
         return Flattening::Refused(Refusal::Room);
     }
     Flattening::Done(lay_table(t, room))

@@ -10,17 +10,17 @@ use lib.ListN.{length, take, drop, set, length-set, take-append-drop}
 use lib.Seq.{length-take-le, length-front, set-append-left, take-take, drop-at}
 use Rattle.words.proofs.Tests.{by-bool, clash, ltb-lt, ltb-ge}
 use Rattle.effects.specs.Run.{Result, ok, St, written}
-use Rattle.effects.specs.Lent.{roomFor}
+use Rattle.effects.specs.Lent.{pairsFor}
 use Rattle.effects.specs.Work.{Going, outsOf, stopped?}
 use Rattle.effects.proofs.Same.{Outcome, done, refused}
 use Rattle.macrostep.specs.Ends.{told?, Ends, ended, halted}
 
 -- the room for outputs is at most 256 pairs, and the words lent hold it
-pub room-few : (l : ℕ) → roomFor l ≤ 256
-room-few l = by-bool (ltb 256 (l / 2)) (λ e. rw e (omega arith)) (λ e. rw e (ltb-ge 256 (l / 2) e))
+pub pairs-few : (l : ℕ) → pairsFor l ≤ 256
+pairs-few l = by-bool (ltb 256 (l / 2)) (λ e. rw e (omega arith)) (λ e. rw e (ltb-ge 256 (l / 2) e))
 
-pub room-fits : (l : ℕ) → 2 * roomFor l ≤ l
-room-fits l =
+pub pairs-fits : (l : ℕ) → 2 * pairsFor l ≤ l
+pairs-fits l =
     by-bool (ltb 256 (l / 2)) (λ e. rw e (omega (arith, ltb-lt 256 (l / 2) e))) (λ e. rw e (omega arith))
 
 -- pairs written into words that hold them all, with others behind
@@ -78,9 +78,9 @@ pub before-fits : {o : List ℕ} {first k : ℕ} {meant : Result St} → first �
 before-fits l (untried z) = omega arith
 before-fits l (tried z w) = omega arith
 
-module _ (o : List ℕ) (room k : ℕ) where
+module _ (o : List ℕ) (pairs k : ℕ) where
   -- what ends well is told with all words lent
-  pub whole-told : {meant : Result St} {g : Going} → 2 * room ≤ length o → k ≡ length o → Well meant → Outcome room (take k o) meant g
+  pub whole-told : {meant : Result St} {g : Going} → 2 * pairs ≤ length o → k ≡ length o → Well meant → Outcome pairs (take k o) meant g
       → told? (g .does .n) k ≡ true
   unfolding told?
   whole-told fits z well (done {s} {g} d) =
@@ -88,8 +88,8 @@ module _ (o : List ℕ) (room k : ℕ) where
       (λ e. absurd (omega (arith, nleb→lt (2 * outsOf (g .does .n)) k (rw e tt), d .outs-count, d .outs-few)))
 
   -- what is not told and has not stopped ends well; it was the first time, and not all words were lent
-  pub goes-again : {first : ℕ} {meant : Result St} {g : Going} → 2 * room ≤ length o → Before o first k meant
-      → Outcome room (take k o) meant g → stopped? (g .does .n) ≡ false → told? (g .does .n) k ≡ false
+  pub goes-again : {first : ℕ} {meant : Result St} {g : Going} → 2 * pairs ≤ length o → Before o first k meant
+      → Outcome pairs (take k o) meant g → stopped? (g .does .n) ≡ false → told? (g .does .n) k ≡ false
       → Well meant × (k ≡ first) × (k < length o)
   unfolding told?
   goes-again fits b (refused {r} {g} s) h q = clash (stopped? (g .does .n)) (s .halts) h
@@ -99,9 +99,9 @@ module _ (o : List ℕ) (room k : ℕ) where
       let over : k < 2 * outsOf (g .does .n) = nleb→lt (2 * outsOf (g .does .n)) k (rw more tt) in
       (well, z, omega (arith, over, d .outs-count, d .outs-few))
 
-module _ (rest : List ℕ → List ℕ) (state o : List ℕ) (room k : ℕ) where
+module _ (rest : List ℕ → List ℕ) (state o : List ℕ) (pairs k : ℕ) where
   -- all that it gave stands in the words lent
-  pub told-ends : {meant : Result St} {g : Going} → k ≤ length o → Outcome room (take k o) meant g → told? (g .does .n) k ≡ true
+  pub told-ends : {meant : Result St} {g : Going} → k ≤ length o → Outcome pairs (take k o) meant g → told? (g .does .n) k ≡ true
       → Ends rest state o (g .does .n) (rest (g .words) ++ g .does .vars) (g .does .outs ++ drop k o) meant
   unfolding told?
   told-ends fits (done {s} {g} d) h =
@@ -111,7 +111,7 @@ module _ (rest : List ℕ → List ℕ) (state o : List ℕ) (room k : ℕ) wher
         goes-on = d .fine;
         micro = d .micro;
         left = d .left;
-        taken = d .taken;
+        fired = d .fired;
         entered = d .entered;
         given = d .outs-count;
         state-is = ap₂ (λ (x y : List ℕ). rest x ++ y) (d .words) (d .vars);
@@ -122,7 +122,7 @@ module _ (rest : List ℕ → List ℕ) (state o : List ℕ) (room k : ℕ) wher
   told-ends fits (refused {r} {g} s) h = clash (told? (g .does .n) k) h (rw (s .halts) refl)
 
   -- what stops does not end well, and what is put back is as it was
-  pub stop-ends : {first : ℕ} {meant : Result St} {g : Going} → Before o first k meant → Outcome room (take k o) meant g
+  pub stop-ends : {first : ℕ} {meant : Result St} {g : Going} → Before o first k meant → Outcome pairs (take k o) meant g
       → stopped? (g .does .n) ≡ true → (outs : List ℕ) → (k ≡ first → outs ≡ o) → Ends rest state o (g .does .n) state outs meant
   stop-ends (untried z) (refused {r} {g} s) h outs back =
       halted (record { halts = s .halts; why = s .why; state-stays = refl; outs-stay = back z })

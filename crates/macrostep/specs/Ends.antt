@@ -7,7 +7,7 @@ use lib.ListN.{length}
 use lib.Dec.{leb}
 use Rattle.table.specs.declared.Refusal.{Refusal}
 use Rattle.effects.specs.Run.{Result, ok, refuse, St, written}
-use Rattle.effects.specs.Work.{takenOf, leftOf, enteredOf, microOf, outsOf, stopped?, refusalOf}
+use Rattle.effects.specs.Work.{firedOf, leftOf, enteredOf, microOf, outsOf, stopped?, refusalOf}
 use Rattle.effects.specs.declared.Progress.{Progress}
 
 -- A macrostep that was lent k words for its outputs has ended well, and they hold all that it gave.
@@ -23,7 +23,7 @@ pub record Ended (rest : List ℕ → List ℕ) (lent : List ℕ) (s : St) (n : 
   pub goes-on : stopped? n ≡ false
   pub micro : microOf n ≡ s .micro
   pub left : leftOf n ≡ s .left
-  pub taken : takenOf n ≡ s .taken
+  pub fired : firedOf n ≡ s .fired
   pub entered : enteredOf n ≡ s .entered
   pub given : outsOf n ≡ length (s .env .outs)
   pub state-is : state ≡ rest (s .words) ++ s .env .vars

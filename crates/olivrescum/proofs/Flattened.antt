@@ -14,15 +14,15 @@ use Rattle.effects.proofs.Calls.{done-not-refused}
 use Rattle.chart.specs.View.{view}
 use Rattle.chart_rules.specs.Rules.{ChartRules}
 use Rattle.chart_check.proofs.Exact.{exact}
-use Rattle.flattening.specs.Room.{roomNeeded}
-use Rattle.flattening.specs.Flattened.{flattened}
-use Rattle.flattening.specs.Encoded.{encode}
-use Rattle.flattening.specs.FlatTable.{FlatTableOf}
-use Rattle.flattening.proofs.Encoded.{encode-length}
-use Rattle.flattening.proofs.Bounds.{total-in-room}
-use Rattle.flattening.proofs.FlatTable.{flat-table-of}
-use Rattle.laying.specs.Lay.{lay}
-use Rattle.laying.proofs.Lay.{lay-front, lay-length, lay-behind}
+use Rattle.flatten_meaning.specs.Room.{roomNeeded}
+use Rattle.flatten_meaning.specs.Flattened.{flattened}
+use Rattle.flatten_meaning.specs.Encoded.{encode}
+use Rattle.flatten_meaning.specs.FlatTable.{FlatTableOf}
+use Rattle.flatten_meaning.proofs.Encoded.{encode-length}
+use Rattle.flatten_meaning.proofs.Bounds.{total-in-room}
+use Rattle.flatten_meaning.proofs.FlatTable.{flat-table-of}
+use Rattle.flatten_laying.specs.Lay.{lay}
+use Rattle.flatten_laying.proofs.Lay.{lay-front, lay-length, lay-behind}
 use Rattle.flatten.specs.Wrote.{flattenTold, flattenAnswer, Wrote, refuses, wrote}
 use Rattle.flatten.specs.declared.Flattening.{Flattening}
 use Rattle.flatten.specs.declared.Flattening.the-variants.{Done, Refused}

@@ -8,15 +8,15 @@ use Rattle.table.specs.Answers.{told}
 use Rattle.table.specs.declared.Refusal.{Refusal}
 use Rattle.table.specs.declared.Verdict.{Verdict}
 use Rattle.chart_check.specs.Answer.{chartAnswer}
-use Rattle.meaning.specs.Calls.{startChart, runChart}
+use Rattle.chart_meaning.specs.Calls.{startChart, runChart}
 use Rattle.effects.specs.Lent.{startTold}
-use Rattle.engine.specs.Told.{ranTold}
-use Rattle.engine.specs.declared.ChartRun.{ChartRun}
+use Rattle.chart_engine.specs.Told.{ranTold}
+use Rattle.chart_engine.specs.declared.ChartRun.{ChartRun}
 use Rattle.flat_check.specs.Answer.{flatAnswer}
 use Rattle.flat_meaning.specs.Calls.{startFlat, runFlat}
 use Rattle.flat_engine.specs.Told.{flatRanTold}
 use Rattle.flat_engine.specs.declared.FlatRun.{FlatRun}
-use Rattle.flattening.specs.FlatTable.{FlatTableOf}
+use Rattle.flatten_meaning.specs.FlatTable.{FlatTableOf}
 use Rattle.flatten.specs.Wrote.{flattenTold, flattenAnswer}
 use Rattle.flatten.specs.declared.Flattening.{Flattening}
 use Rattle.flatten.specs.declared.Flattening.the-variants.{Done, Refused}

@@ -8,11 +8,11 @@ use Rattle.table.specs.declared.Refusal.{Refusal}
 use Rattle.table.specs.declared.Verdict.{Verdict}
 use Rattle.chart_rules.specs.Rules.{ChartRules}
 use Rattle.chart_check.specs.Answer.{chartRules, chartAnswer}
-use Rattle.engine.specs.declared.ChartRun.{ChartRun}
+use Rattle.chart_engine.specs.declared.ChartRun.{ChartRun}
 use Rattle.chart_check.specs.RuleByRule.{RulesNumbered}
 use Rattle.flat_rules.specs.Rules.{FlatRules}
 use Rattle.flat_check.specs.Answer.{flatRules, flatAnswer}
-use Rattle.flat_check.specs.RuleByRule.{RulesNumbered as FlatRulesNumbered}
+use Rattle.flat_check.specs.RuleByRule.{FlatRulesNumbered}
 use Rattle.flat_engine.specs.declared.FlatRun.{FlatRun}
 use Rattle.flatten.specs.Wrote.{flattenTold}
 use Rattle.flatten.specs.declared.Flattening.{Flattening}

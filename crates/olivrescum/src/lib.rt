@@ -4,7 +4,7 @@ pub mod theorems;
 
 ghost use Rattle.olivrescum.specs.Promises.{ChartChecked, ChartStarted, ChartRan};
 ghost use Rattle.olivrescum.specs.Promises.{FlatTableChecked, FlatTableStarted, FlatTableRan, ChartFlattened};
-use engine::ChartRun;
+use chart_engine::ChartRun;
 use flat_engine::FlatRun;
 use flatten::Flattening;
 use table::Verdict;
@@ -20,7 +20,7 @@ pub fn check_chart(chart: &[u16]) -> Verdict
 pub fn start_chart(chart: &[u16], state: &mut [u16]) -> Verdict
     ensures { λ r. ⌜ ChartStarted (now (chart .entry)) (now (state .entry)) r (now (state .exit)) ⌝ }
 {
-    engine::start(chart, state)
+    chart_engine::start(chart, state)
 }
 
 // Runs one event on a chart to the end of its macrostep. `state` becomes the state after it; `outputs` gets two words for
@@ -28,7 +28,7 @@ pub fn start_chart(chart: &[u16], state: &mut [u16]) -> Verdict
 pub fn run_chart(chart: &[u16], state: &mut [u16], event: u32, outputs: &mut [u16]) -> ChartRun
     ensures { λ r. ⌜ ChartRan (now (chart .entry)) (now (state .entry)) event (now (outputs .entry)) r (now (state .exit)) (now (outputs .exit)) ⌝ }
 {
-    engine::run(chart, state, event, outputs)
+    chart_engine::run(chart, state, event, outputs)
 }
 
 // Writes a flat table of the chart into the front of `room`: for every list of events it answers as the chart does.

@@ -64,7 +64,13 @@ fn put_outputs(text: &mut Text, at: usize, outputs: &[u16]) -> usize {
 }
 
 // Puts the line of an event: what the run said, and the outputs that it wrote at the start of `outputs`.
-fn put_run(text: &mut Text, at: usize, event: u8, run: engine::ChartRun, outputs: &[u16]) -> usize {
+fn put_run(
+    text: &mut Text,
+    at: usize,
+    event: u8,
+    run: chart_engine::ChartRun,
+    outputs: &[u16],
+) -> usize {
     let counts = answers::counts_of(run);
     let at = shell::put_number(text, at, event as u32);
     let at = shell::put_field(text, at, answers::number_of(answers::verdict_of(run)));

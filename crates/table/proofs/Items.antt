@@ -7,9 +7,9 @@ use lib.Dec.{eqb, ltb}
 use Rattle.words.proofs.Tests.{and-l, and-r, and-i, eqb-eq, ltb-lt, ltb-yes}
 use Rattle.words.proofs.Tells.{Tells}
 use Rattle.table.specs.Rows.{GoodItem, emit, raise, wrapAdd, satAdd, set, log, goodItem?}
-use Rattle.table.specs.declared.Counts.{Counts}
+use Rattle.table.specs.declared.ItemCounts.{ItemCounts}
 
-module _ (n : Counts) where
+module _ (n : ItemCounts) where
   zeroed : (P : ℕ → Type 0) (b : ℕ) → eqb b 0 ≡ true → P 0 → P b
   zeroed P b e p = subst P (sym (eqb-eq b 0 e)) p
 

@@ -19,8 +19,8 @@ noRule = record { places = 0; keeps = λ i. true }
 abbrev pub whole : Bool → Rule
 whole b = record { places = 1; keeps = λ i. b }
 
-abbrev pub ruleAt : List Rule → ℕ → Rule
-ruleAt rs k = getD rs k noRule
+abbrev pub ruleNumbered : List Rule → ℕ → Rule
+ruleNumbered rs k = getD rs k noRule
 
 -- The lowest place that breaks a rule; all its places, where none does.
 abbrev pub lowestBad : Rule → ℕ
@@ -37,17 +37,17 @@ Kept r = (i : ℕ) → i < r .places → r .keeps i ≡ true
 
 -- The rules before rule k are kept.
 abbrev pub KeptBefore : List Rule → ℕ → Type 0
-KeptBefore rs k = (j : ℕ) → j < k → Kept (ruleAt rs j)
+KeptBefore rs k = (j : ℕ) → j < k → Kept (ruleNumbered rs j)
 
 -- Place p breaks rule k, and nothing before it is broken: no place of a rule before k, and no place of k before p.
 pub record LowestBroken (rs : List Rule) (k p : ℕ) : Type 0 where
   pub a-rule : k < length rs
-  pub a-place : p < ruleAt rs k .places
-  pub broken : ruleAt rs k .keeps p ≡ false
-  pub places-before : (i : ℕ) → i < p → ruleAt rs k .keeps i ≡ true
+  pub a-place : p < ruleNumbered rs k .places
+  pub broken : ruleNumbered rs k .keeps p ≡ false
+  pub places-before : (i : ℕ) → i < p → ruleNumbered rs k .keeps i ≡ true
   pub rules-before : KeptBefore rs k
 
 -- What an answer says of the rules.
 pub data Judged (first : ℕ) (rs : List Rule) : ℕ × ℕ → Type 0 where
-  all-kept : ((k : ℕ) → k < length rs → Kept (ruleAt rs k)) → Judged first rs (0, 0)
+  all-kept : ((k : ℕ) → k < length rs → Kept (ruleNumbered rs k)) → Judged first rs (0, 0)
   lowest-broken : {k p : ℕ} → LowestBroken rs k p → Judged first rs (first + k, p)

@@ -105,14 +105,14 @@ const ROWS: [Row; 6] = [
 ];
 
 // How many signals, outputs and variables a table has.
-pub struct Counts {
+pub struct ItemCounts {
     pub signals: u16,
     pub outputs: u16,
     pub variables: u16,
 }
 
 // Whether a field obeys its range.
-fn in_range(bound: Bound, n: Counts, x: u16) -> bool
+fn in_range(bound: Bound, n: ItemCounts, x: u16) -> bool
     ensures { λ r. ⌜ r ≡ inRange bound n x ⌝ }
 {
     match bound {
@@ -132,7 +132,7 @@ fn row_of(kind: usize) -> Row
 }
 
 // Whether two fields obey the ranges of a row.
-fn in_row(row: Row, n: Counts, a: u16, b: u16) -> bool
+fn in_row(row: Row, n: ItemCounts, a: u16, b: u16) -> bool
     ensures { λ r. ⌜ r ≡ inRow row n a b ⌝ }
 {
     let x = row.a;
@@ -144,7 +144,7 @@ fn in_row(row: Row, n: Counts, a: u16, b: u16) -> bool
 }
 
 // Whether three words are an item of a table with these counts. Each kind has a case of its own, so that its row is known there.
-fn good_item(kind: u16, a: u16, b: u16, n: Counts) -> bool
+fn good_item(kind: u16, a: u16, b: u16, n: ItemCounts) -> bool
     ensures { λ r. ⌜ r ≡ goodItem? n kind a b ⌝ }
 {
     match kind {
@@ -159,7 +159,7 @@ fn good_item(kind: u16, a: u16, b: u16, n: Counts) -> bool
 }
 
 // Whether the three words that begin at `at` are one.
-pub fn good_item_at(t: &[u16], at: usize, n: Counts) -> bool
+pub fn good_item_at(t: &[u16], at: usize, n: ItemCounts) -> bool
     requires { ⌜ at + 2 < length (now t) ⌝ }
     ensures { λ r. ⌜ r ≡ goodItemIn? n (tripleAt (now (t .entry)) at) ⌝ }
 {

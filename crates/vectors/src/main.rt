@@ -109,7 +109,7 @@ fn run_chart_in(
 }
 
 // Puts what a run of a chart says: call, answer, place and the counts.
-fn put_run(text: &mut Text, at: usize, run: engine::ChartRun) -> usize {
+fn put_run(text: &mut Text, at: usize, run: chart_engine::ChartRun) -> usize {
     let counts = answers::counts_of(run);
     let at = put_answer(text, at, 3, answers::verdict_of(run));
     let at = shell::put_counts(text, at, counts);
@@ -322,7 +322,7 @@ fn checksum_behind(words: &[u16], from: usize) -> u32 {
 }
 
 // Whether the rules fired number at most the states left and entered and the transitions taken.
-fn is_within_bound(counts: engine::Counts, flat: flat_engine::FlatCounts) -> bool {
+fn is_within_bound(counts: chart_engine::Counts, flat: flat_engine::FlatCounts) -> bool {
     flat.fired as u64 <= counts.left as u64 + counts.entered as u64 + counts.taken as u64
 }
 

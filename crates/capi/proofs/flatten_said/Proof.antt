@@ -4,7 +4,7 @@ use Rattle.capi.proofs.flatten_said.Statement.{statement}
 use Rattle.capi.proofs.flatten_said.Tie as tie
 
 returns : tie.Need-returns
-returns c = rw (c .words-of .ensures, c .before .verdict-said .ensures, c .before .before .flatten-verdict-of .ensures)
+returns c = rw (c .table-words-of .ensures, c .before .verdict-said .ensures, c .before .before .flatten-verdict-of .ensures)
 
 pub flatten-said-spec : {M : Type 1} → statement M
 flatten-said-spec = tie.close (tie.spec

@@ -7,14 +7,14 @@ use native.Mathlib.Nat.{not-suc-le-zero}
 use native.Mathlib.Omega.{arith}
 use denote.Ref.{now}
 use lib.ListN.{drop}
-use Rattle.table.specs.Check.{ruleAt, lowestBad, answer, KeptBefore}
+use Rattle.table.specs.Check.{ruleNumbered, lowestBad, answer, KeptBefore}
 use Rattle.table.proofs.Check.{broken-here, kept-here, kept-next}
 use Rattle.chart_check.specs.Answer.{chartRules, chartAnswer}
 use Rattle.chart_check.proofs.search.Statement.{statement}
 use Rattle.chart_check.proofs.search.Tie as tie
 
 -- the first three rules are of the table as a whole
-one-place : (t : List ℕ) (k : ℕ) → k < 3 → ruleAt (chartRules t) k .places ≡ 1
+one-place : (t : List ℕ) (k : ℕ) → k < 3 → ruleNumbered (chartRules t) k .places ≡ 1
 one-place t zero h = refl
 one-place t (suc zero) h = refl
 one-place t (suc (suc zero)) h = refl
@@ -57,7 +57,7 @@ loop-again c =
     let p = c .before .lowest-bad .ensures .0 in
     let n = c .before .before .places-of .ensures .0 in
     let a-rule = c .before .before .before .loop-test .taken in
-    let none : ruleAt (chartRules t) (l .k) .places ≤ lowestBad (ruleAt (chartRules t) (l .k)) = omega (arith, p, n) in (
+    let none : ruleNumbered (chartRules t) (l .k) .places ≤ lowestBad (ruleNumbered (chartRules t) (l .k)) = omega (arith, p, n) in (
       omega arith,
       l .inv .1 ∙ kept-here 1 (chartRules t) (l .k) a-rule none,
       kept-next (chartRules t) (l .k) (l .inv .2) none,

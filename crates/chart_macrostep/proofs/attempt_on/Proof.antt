@@ -91,7 +91,7 @@ returns c =
     let s = c .before .before .before .before .before .before .before .before .before .before .before .before .before .before .before .before .before .before .before .before .before .before .before .before .before .before .before .before .before .before .before .before .before .before .before .before .before .before .before .before .before .before .before .args in
     let v = c .before .before .before .before .before .before .before .before .before .before .before .before .before .before .before .before .before .before .before .before .before .before .before .before .before .before .before .before .before .before .before .before .before .before .before .before .head in
     let n = c .before .before .before .before .before .before .before .before .before .before .before .before .before .before .before .before .before .before .before .before .go in
-    told-tried (view (now (s .t))) (s .room) (s .event .0) (s .words) (v .result) (now (s .state)) (now (s .outs)) (now (s .queue))
+    told-tried (view (now (s .t))) (s .pairs) (s .event .0) (s .words) (v .result) (now (s .state)) (now (s .outs)) (now (s .queue))
     (pre .0 .number) (omega (arith, v .ensures .0, lent-long (pre .0))) (now (s .next)) (now (s .vars)) _ _
     (omega (arith, pre .1, pre .0 .few)) (vars-wide (pre .0) (pre .2) (v .ensures .0))
     (c .before .before .before .before .before .before .before .before .before .before .before .before .before .before .before .before .before .before .before .before .before .before .before .before .before .before .before .before .before .before .before .before .before .load .ensures) (c .before .before .before .before .before .before .before .before .before .before .before .before .before .before .before .before .before .before .before .before .before .before .before .before .before .before .before .before .load2 .ensures) _ (n .result) _ _ _ _ (c .before .before .before .before .before .before .before .before .before .before .before .before .before .before .before .before .before .before .before .before .before .start .ensures) (n .ensures)
@@ -108,7 +108,7 @@ returns-2 c =
     let s = c .before .before .before .before .before .before .before .before .before .before .before .before .before .before .before .before .before .before .before .before .before .before .before .before .before .before .before .before .before .before .before .before .before .args in
     let v = c .before .before .before .before .before .before .before .before .before .before .before .before .before .before .before .before .before .before .before .before .before .before .before .before .before .before .head in
     let n = c .before .before .before .before .before .before .before .before .before .before .go in
-    untold-tried (view (now (s .t))) (s .room) (s .event .0) (s .words) (v .result) (now (s .state)) (now (s .outs)) (now (s .queue))
+    untold-tried (view (now (s .t))) (s .pairs) (s .event .0) (s .words) (v .result) (now (s .state)) (now (s .outs)) (now (s .queue))
     (pre .0 .number) (omega (arith, v .ensures .0, lent-long (pre .0))) (now (s .next)) (now (s .vars)) _ _
     (omega (arith, pre .1, pre .0 .few)) (vars-wide (pre .0) (pre .2) (v .ensures .0))
     (c .before .before .before .before .before .before .before .before .before .before .before .before .before .before .before .before .before .before .before .before .before .before .before .load .ensures) (c .before .before .before .before .before .before .before .before .before .before .before .before .before .before .before .before .before .before .load2 .ensures) _ (n .result) _ _ _ _ (c .before .before .before .before .before .before .before .before .before .before .before .start .ensures) (n .ensures)

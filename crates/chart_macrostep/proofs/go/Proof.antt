@@ -9,19 +9,19 @@ use Rattle.effects.specs.declared.Progress.{Progress}
 use Rattle.effects.specs.Work.{going, turns}
 use Rattle.chart.specs.View.{view}
 use Rattle.chart_rules.proofs.Readable.{chart-readable}
-use Rattle.meaning.specs.Steps.{chartMachine}
+use Rattle.chart_meaning.specs.Steps.{chartMachine}
 use Rattle.macrostep.proofs.Turns.{ends, goes-on, runs-out}
 use Rattle.chart_macrostep.proofs.go.Statement.{statement}
 use Rattle.chart_macrostep.proofs.go.Tie as tie
 
 abbrev Inv-loop : tie.InvT-loop
-Inv-loop t ors room next₀ vars₀ outs₀ queue₀ events m₀ e₀ left₀ next vars outs queue m e left =
+Inv-loop t ors pairs next₀ vars₀ outs₀ queue₀ events m₀ e₀ left₀ next vars outs queue m e left =
     (length next ≡ length next₀) × (length vars ≡ length vars₀) × (length outs ≡ length outs₀) × (length queue ≡ length queue₀)
-    × (turns 64 (view t .events) room (chartMachine (view t)) (e₀ .0) (going m₀ next₀ vars₀ outs₀ queue₀)
-    ≡ turns left (view t .events) room (chartMachine (view t)) (e .0) (going m next vars outs queue))
+    × (turns 64 (view t .events) pairs (chartMachine (view t)) (e₀ .0) (going m₀ next₀ vars₀ outs₀ queue₀)
+    ≡ turns left (view t .events) pairs (chartMachine (view t)) (e .0) (going m next vars outs queue))
 
 abbrev μ-loop : tie.MeasureT-loop
-μ-loop t ors room next₀ vars₀ outs₀ queue₀ events m₀ e₀ left₀ next vars outs queue m e left = left
+μ-loop t ors pairs next₀ vars₀ outs₀ queue₀ events m₀ e₀ left₀ next vars outs queue m e left = left
 
 word-in-requires : tie.Need-word-in-requires Inv-loop μ-loop
 word-in-requires c κs = omega (arith, chart-readable (c .before .before .before .before .before .pre .0) .header)
@@ -37,7 +37,7 @@ returns c =
     let s = c .before .before .before .before .before .before .before .before .before .before .before .before .before .before .before .before .before .before .before .before .before .before .before .before .args in
     let l = c .before .before .before .before .before .before .before .before .before .before .before .before .before .before .before .before .before .loop in
     let t = view (now (s .t)) in
-    sym (l .inv .4 ∙ ends (t .events) (s .room) (chartMachine t) (l .left) (l .e .0) (l .m) _ _ (l .next) (l .vars) (l .outs) (l .queue)
+    sym (l .inv .4 ∙ ends (t .events) (s .pairs) (chartMachine t) (l .left) (l .e .0) (l .m) _ _ (l .next) (l .vars) (l .outs) (l .queue)
     _ _ _ _ (c .before .before .before .before .before .before .before .before .before .before .before .before .before .before .before .before .loop-test .taken) (c .before .before .before .before .before .before .before .before .before .before .before .run .ensures) (c .before .before .count-micro .ensures) (sym (c .before .has-ended .ensures) ∙ c .if1 .taken))
 
 loop-again : tie.Need-loop-again Inv-loop μ-loop
@@ -49,7 +49,7 @@ loop-again c =
       c .before .before .before .before .before .before .before .before .before .before .before .vars .given ∙ l .inv .1,
       c .before .before .before .before .before .before .before .before .before .outs .given ∙ l .inv .2,
       c .before .before .before .before .before .before .before .queue .given ∙ l .inv .3,
-      l .inv .4 ∙ goes-on (t .events) (s .room) (chartMachine t) (l .left) (l .e .0) (l .m) _ _ (l .next) (l .vars) (l .outs) (l .queue)
+      l .inv .4 ∙ goes-on (t .events) (s .pairs) (chartMachine t) (l .left) (l .e .0) (l .m) _ _ (l .next) (l .vars) (l .outs) (l .queue)
           _ _ _ _ (c .before .before .before .before .before .before .before .before .before .before .before .before .before .before .before .before .before .before .before .loop-test .taken) (c .before .before .before .before .before .before .before .before .before .before .before .before .before .before .run .ensures) (c .before .before .before .before .before .count-micro .ensures) (sym (c .before .before .before .before .has-ended .ensures) ∙ c .before .before .before .if1 .left) _ _
           (c .before .before .before .before .before .before .before .before .before .before .before .before .before .before .before .before .before .before .before .before .before .word-in .ensures) (c .before .oldest .ensures) _ (c .pop .ensures),
     )
@@ -66,7 +66,7 @@ returns-2 c =
     let l = c .before .before .loop in
     let t = view (now (s .t)) in
     ap (λ (p : Progress). going p (l .next) (l .vars) (l .outs) (l .queue)) (c .stop-at .ensures)
-    ∙ sym (l .inv .4 ∙ runs-out (t .events) (s .room) (chartMachine t) (l .left) (l .e .0)
+    ∙ sym (l .inv .4 ∙ runs-out (t .events) (s .pairs) (chartMachine t) (l .left) (l .e .0)
     (going (l .m) (l .next) (l .vars) (l .outs) (l .queue)) (omega (arith, c .before .loop-test .left)))
 
 pub go-spec : {M : Type 1} → statement M

@@ -7,7 +7,7 @@ use denote.Ref.{now}
 use lib.ListN.{length}
 use lib.Seq.{length-take-le}
 use Rattle.chart.specs.View.{view}
-use Rattle.meaning.proofs.Small.{machine-small, chart-machine-tame}
+use Rattle.chart_meaning.proofs.Small.{machine-small, chart-machine-tame}
 use Rattle.macrostep.proofs.Passes.{kept-enough}
 use Rattle.chart_macrostep.proofs.Twice.{told-first, stops-first, told-again}
 use Rattle.chart_macrostep.proofs.pass.Statement.{statement}
@@ -22,7 +22,7 @@ returns c =
     let lent = c .before .before .before .before .before .before .before .before .before .before .before .before .before .before .before .before .before .before .before .pre .0 in
     let n = c .before .before .before .before .before .before .attempt in
     told-first (view (now (s .t))) (s .event .0) (s .words) (length (now (s .kept))) _ (now (s .state)) (now (s .outputs))
-    (machine-small (lent .rules)) (chart-machine-tame (lent .rules)) (lent .number) (c .before .before .before .before .before .before .before .before .before .before .before .before .before .before .before .before .before .before .before .pre .1) (c .before .before .before .before .before .before .before .before .before .before .before .before .before .before .room-of .ensures .0)
+    (machine-small (lent .rules)) (chart-machine-tame (lent .rules)) (lent .number) (c .before .before .before .before .before .before .before .before .before .before .before .before .before .before .before .before .before .before .before .pre .1) (c .before .before .before .before .before .before .before .before .before .before .before .before .before .before .pairs-of .ensures .0)
     (n .result) _ _ (n .ensures) (sym (c .before .is-told .ensures) ∙ c .if1 .taken)
 
 slice-aggregate-load : tie.Need-slice-aggregate-load
@@ -37,7 +37,7 @@ returns-2 c =
     let lent = c .before .before .before .before .before .before .before .before .before .before .before .before .before .before .before .before .before .before .before .before .before .before .before .before .before .before .pre .0 in
     let n = c .before .before .before .before .before .before .before .before .before .before .before .before .before .attempt in
     stops-first (view (now (s .t))) (s .event .0) (s .words) (length (now (s .kept))) _ (now (s .state)) (now (s .outputs))
-    (machine-small (lent .rules)) (chart-machine-tame (lent .rules)) (lent .number) (c .before .before .before .before .before .before .before .before .before .before .before .before .before .before .before .before .before .before .before .before .before .before .before .before .before .before .pre .1) (c .before .before .before .before .before .before .before .before .before .before .before .before .before .before .before .before .before .before .before .before .before .room-of .ensures .0)
+    (machine-small (lent .rules)) (chart-machine-tame (lent .rules)) (lent .number) (c .before .before .before .before .before .before .before .before .before .before .before .before .before .before .before .before .before .before .before .before .before .before .before .before .before .before .pre .1) (c .before .before .before .before .before .before .before .before .before .before .before .before .before .before .before .before .before .before .before .before .before .pairs-of .ensures .0)
     (n .result) _ _ (n .ensures) _ _ (c .before .before .before .before .before .before .before .before .before .before .outputs .given .0) (c .before .before .before .before .before .before .before .before .before .before .before .before .before .before .before .before .before .before .load .ensures) (c .before .before .before .before .load2 .ensures)
     (sym (c .before .before .before .before .before .before .before .before .is-told .ensures) ∙ c .before .before .before .before .before .before .before .if1 .left) (sym (c .before .is-stopped .ensures) ∙ c .if2 .taken)
 
@@ -58,7 +58,7 @@ returns-3 c =
     let lent = c .before .before .before .before .before .before .before .before .before .before .before .before .before .before .before .before .before .before .before .before .before .before .before .before .before .before .before .before .before .before .before .before .before .pre .0 in
     let n = c .before .before .before .before .before .before .before .before .before .before .before .before .before .before .before .before .before .before .before .before .attempt in
     told-again (view (now (s .t))) (s .event .0) (s .words) (length (now (s .kept))) _ (now (s .state)) (now (s .outputs))
-    (machine-small (lent .rules)) (chart-machine-tame (lent .rules)) (lent .number) (c .before .before .before .before .before .before .before .before .before .before .before .before .before .before .before .before .before .before .before .before .before .before .before .before .before .before .before .before .before .before .before .before .before .pre .1) (c .before .before .before .before .before .before .before .before .before .before .before .before .before .before .before .before .before .before .before .before .before .before .before .before .before .before .before .before .room-of .ensures .0)
+    (machine-small (lent .rules)) (chart-machine-tame (lent .rules)) (lent .number) (c .before .before .before .before .before .before .before .before .before .before .before .before .before .before .before .before .before .before .before .before .before .before .before .before .before .before .before .before .before .before .before .before .before .pre .1) (c .before .before .before .before .before .before .before .before .before .before .before .before .before .before .before .before .before .before .before .before .before .before .before .before .before .before .before .before .pairs-of .ensures .0)
     (n .result) _ _ (n .ensures) _ _ (c .before .before .before .before .before .before .before .before .before .before .before .before .before .before .before .before .before .outputs .given .0) (c .before .before .before .before .before .before .before .before .before .before .before .before .before .before .before .before .before .before .before .before .before .before .before .before .before .load .ensures) (c .before .before .before .before .before .before .before .before .before .before .before .load2 .ensures)
     (sym (c .before .before .before .before .before .before .before .before .before .before .before .before .before .before .before .is-told .ensures) ∙ c .before .before .before .before .before .before .before .before .before .before .before .before .before .before .if1 .left) (sym (c .before .before .before .before .before .before .before .before .is-stopped .ensures) ∙ c .before .before .before .before .before .before .before .if2 .left) _ _ _ (c .before .before .before .before .attempt2 .ensures)
 

@@ -17,9 +17,9 @@ unfolding doEmit
 returns-2 c =
     let second = c .before .before .before in
     let first = second .before .before .before .before in
-    let room = first .before .before in
-    let k = room .before .wide .ensures .0 ∙ room .before .before .outs-of .ensures .0 in
-    rw (c .advanced .ensures, second .put2 .ensures, first .put .ensures, k, lt-leb _ _ (rw k at (room .if1 .left)))
+    let pairs = first .before .before in
+    let k = pairs .before .wide .ensures .0 ∙ pairs .before .before .outs-of .ensures .0 in
+    rw (c .advanced .ensures, second .put2 .ensures, first .put .ensures, k, lt-leb _ _ (rw k at (pairs .if1 .left)))
 
 pub emit-spec : {M : Type 1} → statement M
 emit-spec =

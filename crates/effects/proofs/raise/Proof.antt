@@ -17,10 +17,10 @@ unfolding doRaise
 returns-2 c =
     let put = c .before .before .before in
     let wide = put .before .before in
-    let room = wide .before .before in
-    let h = room .before .head-of .ensures .0 in
-    let t = room .before .before .tail-of .ensures .0 in
-    rw (c .advanced .ensures, put .put-byte .ensures, wide .wide .ensures .0, t, lt-leb _ _ (rw (h, t) at (room .if1 .left)))
+    let pairs = wide .before .before in
+    let h = pairs .before .head-of .ensures .0 in
+    let t = pairs .before .before .tail-of .ensures .0 in
+    rw (c .advanced .ensures, put .put-byte .ensures, wide .wide .ensures .0, t, lt-leb _ _ (rw (h, t) at (pairs .if1 .left)))
 
 pub raise-spec : {M : Type 1} → statement M
 raise-spec =

@@ -10,16 +10,16 @@ use Rattle.effects.proofs.run_items.Statement.{statement}
 use Rattle.effects.proofs.run_items.Tie as tie
 
 abbrev Inv-loop : tie.InvT-loop
-Inv-loop t first count room vars₀ outs₀ queue₀ m₀ at₀ left₀ vars outs queue m at left =
+Inv-loop t first count pairs vars₀ outs₀ queue₀ m₀ at₀ left₀ vars outs queue m at left =
     (at + 3 * left ≤ length t)
     × (length vars ≡ length vars₀)
     × (length outs ≡ length outs₀)
     × (length queue ≡ length queue₀)
-    × (doItems room (itemsFrom t at₀ left₀) (work m₀ vars₀ outs₀ queue₀)
-    ≡ doItems room (itemsFrom t at left) (work m vars outs queue))
+    × (doItems pairs (itemsFrom t at₀ left₀) (work m₀ vars₀ outs₀ queue₀)
+    ≡ doItems pairs (itemsFrom t at left) (work m vars outs queue))
 
 abbrev μ-loop : tie.MeasureT-loop
-μ-loop t first count room vars₀ outs₀ queue₀ m₀ at₀ left₀ vars outs queue m at left = left
+μ-loop t first count pairs vars₀ outs₀ queue₀ m₀ at₀ left₀ vars outs queue m at left = left
 
 returns : tie.Need-returns Inv-loop μ-loop
 returns c =

@@ -7,14 +7,14 @@ use native.Mathlib.Nat.{not-suc-le-zero}
 use native.Mathlib.Omega.{arith}
 use denote.Ref.{now}
 use lib.ListN.{drop}
-use Rattle.table.specs.Check.{ruleAt, lowestBad, answer, KeptBefore}
+use Rattle.table.specs.Check.{ruleNumbered, lowestBad, answer, KeptBefore}
 use Rattle.table.proofs.Check.{broken-here, kept-here, kept-next}
 use Rattle.flat_check.specs.Answer.{flatRules, flatAnswer}
 use Rattle.flat_check.proofs.check.Statement.{statement}
 use Rattle.flat_check.proofs.check.Tie as tie
 
 -- the first three rules are of the table as a whole
-one-place : (t : List ℕ) (k : ℕ) → k < 3 → ruleAt (flatRules t) k .places ≡ 1
+one-place : (t : List ℕ) (k : ℕ) → k < 3 → ruleNumbered (flatRules t) k .places ≡ 1
 one-place t zero h = refl
 one-place t (suc zero) h = refl
 one-place t (suc (suc zero)) h = refl
@@ -59,7 +59,7 @@ loop-again c =
     let p = c .before .lowest-bad .ensures .0 in
     let n = c .before .before .places-of .ensures .0 in
     let a-rule = c .before .before .before .loop-test .taken in
-    let none : ruleAt (flatRules t) (l .k) .places ≤ lowestBad (ruleAt (flatRules t) (l .k)) = omega (arith, p, n) in (
+    let none : ruleNumbered (flatRules t) (l .k) .places ≤ lowestBad (ruleNumbered (flatRules t) (l .k)) = omega (arith, p, n) in (
       omega arith,
       l .inv .1 ∙ kept-here 11 (flatRules t) (l .k) a-rule none,
       kept-next (flatRules t) (l .k) (l .inv .2) none,

@@ -8,7 +8,7 @@ use native.Mathlib.Omega.{arith}
 use denote.Ref.{now}
 use Rattle.words.specs.Loops.{allBelow}
 use Rattle.words.proofs.Loops.{allBelow-next, allBelow-no}
-use Rattle.flat.specs.View.{flatView, stateOf?}
+use Rattle.flat.specs.View.{flatView, ofMachine?}
 use Rattle.flat_rules.proofs.Readable.{flat-needs}
 use Rattle.flat_meaning.specs.State.{goodFlatWord?}
 use Rattle.flat_engine.proofs.good_words.Statement.{statement}
@@ -29,8 +29,8 @@ returns c =
     let s = c .before .before .before .before .before .before .before .before .args in
     let f = flatView (now (s .t)) in
     let m = c .before .before .before .before .loop .m in
-    let is = c .before .is-state-of in
-    let read = ap (stateOf? f m) (c .before .before .number .ensures .0) in
+    let is = c .before .is-of-machine in
+    let read = ap (ofMachine? f m) (c .before .before .number .ensures .0) in
     let bad = sym (is .ensures ∙ read) ∙ not-true (is .result) (c .if1 .taken) in
     sym (allBelow-no (goodFlatWord? f (now (s .current))) (f .machines) m (omega arith) bad)
 
@@ -40,8 +40,8 @@ loop-again c =
     let s = c .before .before .before .before .before .before .before .before .args in
     let f = flatView (now (s .t)) in
     let l = c .before .before .before .before .loop in
-    let is = c .before .is-state-of in
-    let read = ap (stateOf? f (l .m)) (c .before .before .number .ensures .0) in
+    let is = c .before .is-of-machine in
+    let read = ap (ofMachine? f (l .m)) (c .before .before .number .ensures .0) in
     let good = sym (is .ensures ∙ read) ∙ not-false (is .result) (c .if1 .left) in
     (omega arith, allBelow-next (goodFlatWord? f (now (s .current))) (l .m) (l .inv .1) good)
 

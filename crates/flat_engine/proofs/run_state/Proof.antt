@@ -36,7 +36,7 @@ returns-2 c =
     let s = c .before .before .before .before .before .before .before .before .before .before .before .before .before .before .before .before .before .before .args in
     let ran = c .before .before .before .before .before .before .before .before .before .run in
     run-done (now (s .state)) (now (s .outputs)) (ran .result) _ _ (now (s .t)) (s .event .0) _ (c .before .before .before .before .before .before .before .before .before .before .before .before .before .head .ensures .0)
-    (ran .ensures) (sym (c .before .before .is-stopped .ensures) ∙ c .before .if1 .left) _ (c .counts-of .ensures)
+    (ran .ensures) (sym (c .before .before .is-stopped .ensures) ∙ c .before .if1 .left) _ (c .finished-counts .ensures)
 
 pub run-state-spec : {M : Type 1} → statement M
 run-state-spec =

@@ -1,11 +1,11 @@
 -- `flat_head::good_form` meets its contract: what it returns is what its callees say. Assumes nothing.
-use Rattle.flat_head.specs.Tests.{goodForm?}
+use Rattle.flat_head.specs.Tests.{goodFlatForm?}
 use borrow.Author.Needs.{needs}
 use Rattle.flat_head.proofs.good_form.Statement.{statement}
 use Rattle.flat_head.proofs.good_form.Tie as tie
 
 returns : tie.Need-returns
-unfolding goodForm?
+unfolding goodFlatForm?
 returns c =
     rw (
       c .both2 .ensures,

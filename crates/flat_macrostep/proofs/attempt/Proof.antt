@@ -15,10 +15,10 @@ use Rattle.flat_macrostep.proofs.attempt.Statement.{statement}
 use Rattle.flat_macrostep.proofs.attempt.Tie as tie
 
 -- what begins with the words and variables of a state
-begun : (events room : ℕ) (m : Machine) (e : ℕ) (g : Going) (n : Progress) (state next vars outs queue : List ℕ) (k : ℕ)
-    → g ≡ turns 64 events room m e (going n next vars outs queue) → n ≡ fresh → next ≡ take k state → vars ≡ drop k state
-    → g ≡ turns 64 events room m e (going fresh (take k state) (drop k state) outs queue)
-begun events room m e g n state next vars outs queue k p a b d = p ∙ rw (a, b, d) refl
+begun : (events pairs : ℕ) (m : Machine) (e : ℕ) (g : Going) (n : Progress) (state next vars outs queue : List ℕ) (k : ℕ)
+    → g ≡ turns 64 events pairs m e (going n next vars outs queue) → n ≡ fresh → next ≡ take k state → vars ≡ drop k state
+    → g ≡ turns 64 events pairs m e (going fresh (take k state) (drop k state) outs queue)
+begun events pairs m e g n state next vars outs queue k p a b d = p ∙ rw (a, b, d) refl
 
 go-requires : tie.Need-go-requires
 go-requires c κs =
@@ -33,7 +33,7 @@ returns c =
     let k = length (now (s .next)) in
     let long = length (now (s .vars)) in
     let behind = c .before .before .before .before .before .before .before .before .before .before .before .before .before .before .before .before .before .before .before .load2 .ensures ∙ ap (λ (i : ℕ). take long (drop i state)) (c .before .before .before .before .before .before .before .before .before .before .before .before .before .before .before .before .before .before .before .before .before .before .next .given) in
-    begun (f .events) (s .room) (flatMachine f) (s .event .0) _ _ state _ _ (now (s .outs)) (now (s .queue)) k
+    begun (f .events) (s .pairs) (flatMachine f) (s .event .0) _ _ state _ _ (now (s .outs)) (now (s .queue)) k
     (c .before .before .before .before .before .before .before .before .before .before .go .ensures) (c .before .before .before .before .before .before .before .before .before .before .before .start .ensures) (c .before .before .before .before .before .before .before .before .before .before .before .before .before .before .before .before .before .before .before .before .before .before .before .load .ensures) (filled-behind _ state k long (c .before .before .before .before .before .before .before .before .before .before .before .before .before .before .before .before .before .before .before .before .before .before .before .before .before .before .before .before .before .before .before .before .pre .1 .state-long) behind)
 
 pub attempt-spec : {M : Type 1} → statement M

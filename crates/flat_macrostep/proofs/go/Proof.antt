@@ -14,14 +14,14 @@ use Rattle.flat_macrostep.proofs.go.Statement.{statement}
 use Rattle.flat_macrostep.proofs.go.Tie as tie
 
 abbrev Inv-loop : tie.InvT-loop
-Inv-loop t marks₀ room next₀ vars₀ outs₀ queue₀ events m₀ e₀ left₀ marks next vars outs queue m e left =
+Inv-loop t marks₀ pairs next₀ vars₀ outs₀ queue₀ events m₀ e₀ left₀ marks next vars outs queue m e left =
     (length marks ≡ length marks₀) × (length next ≡ length next₀) × (length vars ≡ length vars₀)
     × (length outs ≡ length outs₀) × (length queue ≡ length queue₀)
-    × (turns 64 (flatView t .events) room (flatMachine (flatView t)) (e₀ .0) (going m₀ next₀ vars₀ outs₀ queue₀)
-    ≡ turns left (flatView t .events) room (flatMachine (flatView t)) (e .0) (going m next vars outs queue))
+    × (turns 64 (flatView t .events) pairs (flatMachine (flatView t)) (e₀ .0) (going m₀ next₀ vars₀ outs₀ queue₀)
+    ≡ turns left (flatView t .events) pairs (flatMachine (flatView t)) (e .0) (going m next vars outs queue))
 
 abbrev μ-loop : tie.MeasureT-loop
-μ-loop t marks₀ room next₀ vars₀ outs₀ queue₀ events m₀ e₀ left₀ marks next vars outs queue m e left = left
+μ-loop t marks₀ pairs next₀ vars₀ outs₀ queue₀ events m₀ e₀ left₀ marks next vars outs queue m e left = left
 
 word-in-requires : tie.Need-word-in-requires Inv-loop μ-loop
 word-in-requires c κs = omega (arith, c .before .before .before .before .before .before .pre .0 .form .header)
@@ -40,7 +40,7 @@ returns c =
     let s = c .before .before .before .before .before .before .before .before .before .before .before .before .before .before .before .before .before .before .before .before .before .before .before .before .before .before .before .before .args in
     let l = c .before .before .before .before .before .before .before .before .before .before .before .before .before .before .before .before .before .before .before .before .loop in
     let f = flatView (now (s .t)) in
-    sym (l .inv .5 ∙ ends (f .events) (s .room) (flatMachine f) (l .left) (l .e .0) (l .m) _ _ (l .next) (l .vars) (l .outs) (l .queue)
+    sym (l .inv .5 ∙ ends (f .events) (s .pairs) (flatMachine f) (l .left) (l .e .0) (l .m) _ _ (l .next) (l .vars) (l .outs) (l .queue)
     _ _ _ _ (c .before .before .before .before .before .before .before .before .before .before .before .before .before .before .before .before .before .before .before .loop-test .taken) (c .before .before .before .before .before .before .before .before .before .before .before .before .before .run .ensures) (c .before .before .count-micro .ensures) (sym (c .before .has-ended .ensures) ∙ c .if1 .taken))
 
 loop-again : tie.Need-loop-again Inv-loop μ-loop
@@ -53,7 +53,7 @@ loop-again c =
       c .before .before .before .before .before .before .before .before .before .before .before .vars .given ∙ l .inv .2,
       c .before .before .before .before .before .before .before .before .before .outs .given ∙ l .inv .3,
       c .before .before .before .before .before .before .before .queue .given ∙ l .inv .4,
-      l .inv .5 ∙ goes-on (f .events) (s .room) (flatMachine f) (l .left) (l .e .0) (l .m) _ _ (l .next) (l .vars) (l .outs) (l .queue)
+      l .inv .5 ∙ goes-on (f .events) (s .pairs) (flatMachine f) (l .left) (l .e .0) (l .m) _ _ (l .next) (l .vars) (l .outs) (l .queue)
           _ _ _ _ (c .before .before .before .before .before .before .before .before .before .before .before .before .before .before .before .before .before .before .before .before .before .before .loop-test .taken) (c .before .before .before .before .before .before .before .before .before .before .before .before .before .before .before .before .run .ensures) (c .before .before .before .before .before .count-micro .ensures) (sym (c .before .before .before .before .has-ended .ensures) ∙ c .before .before .before .if1 .left) _ _
           (c .before .before .before .before .before .before .before .before .before .before .before .before .before .before .before .before .before .before .before .before .before .before .before .before .word-in .ensures) (c .before .oldest .ensures) _ (c .pop .ensures),
     )
@@ -70,7 +70,7 @@ returns-2 c =
     let l = c .before .before .loop in
     let f = flatView (now (s .t)) in
     ap (λ (p : Progress). going p (l .next) (l .vars) (l .outs) (l .queue)) (c .stop-at .ensures)
-    ∙ sym (l .inv .5 ∙ runs-out (f .events) (s .room) (flatMachine f) (l .left) (l .e .0)
+    ∙ sym (l .inv .5 ∙ runs-out (f .events) (s .pairs) (flatMachine f) (l .left) (l .e .0)
     (going (l .m) (l .next) (l .vars) (l .outs) (l .queue)) (omega (arith, c .before .loop-test .left)))
 
 pub go-spec : {M : Type 1} → statement M

@@ -12,7 +12,7 @@ use lib.Seq.{length-take-le}
 use Rattle.words.proofs.Tests.{by-bool, clash}
 use Rattle.effects.specs.declared.Progress.{Progress}
 use Rattle.effects.specs.Run.{Result, St, macrostep}
-use Rattle.effects.specs.Lent.{roomFor}
+use Rattle.effects.specs.Lent.{pairsFor}
 use Rattle.effects.specs.Work.{stopped?}
 use Rattle.flat.specs.View.{flatView}
 use Rattle.flat_meaning.specs.Steps.{flatMachine}
@@ -37,14 +37,14 @@ module _ (state o : List ℕ) (n : Progress) (words vars outs : List ℕ) (meant
   stop-hands h ends = rw h ends
 
 abbrev Inv-loop : tie.InvT-loop
-Inv-loop t marks₀ state event outputs₀ next₀ vars₀ kept queue₀ all room first lent₀ marks outputs next vars queue lent =
+Inv-loop t marks₀ state event outputs₀ next₀ vars₀ kept queue₀ all pairs first lent₀ marks outputs next vars queue lent =
     (length marks ≡ length marks₀) × (length next ≡ length next₀) × (length vars ≡ length vars₀) × (length queue ≡ length queue₀)
     × (outputs ≡ outputs₀)
-    × Before outputs₀ first lent (macrostep (flatView t .events) (roomFor (length outputs₀)) (flatMachine (flatView t)) (event .0)
+    × Before outputs₀ first lent (macrostep (flatView t .events) (pairsFor (length outputs₀)) (flatMachine (flatView t)) (event .0)
     (take (length next₀) state) (drop (length next₀) state))
 
 abbrev μ-loop : tie.MeasureT-loop
-μ-loop t marks₀ state event outputs₀ next₀ vars₀ kept queue₀ all room first lent₀ marks outputs next vars queue lent =
+μ-loop t marks₀ state event outputs₀ next₀ vars₀ kept queue₀ all pairs first lent₀ marks outputs next vars queue lent =
     length outputs₀ - lent
 
 loop-holds : tie.Need-loop-holds Inv-loop μ-loop
@@ -84,13 +84,13 @@ returns c =
     let pre = c .before .before .before .before .before .before .before .before .before .before .before .before .before .before .before .before .before .before .before .before .before .before .before .before .before .before .before .before .before .before .before .before .before .pre in
     let l = c .before .before .before .before .before .before .before .before .before .before .before .before .before .before .before .before .before .before .loop in
     let ran = c .before .before .before .before .before .before .before .before .before .before .before .before .attempt in
-    let room = c .before .before .before .before .before .before .before .before .before .before .before .before .before .before .before .before .before .before .before .before .before .before .before .before .room-of in
+    let pairs = c .before .before .before .before .before .before .before .before .before .before .before .before .before .before .before .before .before .before .before .before .before .before .before .before .pairs-of in
     let f = flatView (now (s .t)) in
     let told = sym (c .before .is-told .ensures) ∙ c .if1 .taken in
     told-hands (now (s .state)) (now (s .outputs)) (ran .result) _ _ _ _ (l .lent) told
     (told-pass (f .events) (flatMachine f) (λ w. w) (now (s .state)) (now (s .outputs)) (s .event .0) (length (now (s .next)))
-    (length (now (s .kept))) (flat-machine-small (pre .0)) (flat-machine-tame (pre .0)) (pre .2) (room .result) (length (l .next)) (l .lent)
-    (l .outputs) _ (l .queue) (room .ensures .0) (l .inv .1) (l .inv .4) refl (l .inv .3 ∙ pre .1 .queue-long) (l .inv .5)
+    (length (now (s .kept))) (flat-machine-small (pre .0)) (flat-machine-tame (pre .0)) (pre .2) (pairs .result) (length (l .next)) (l .lent)
+    (l .outputs) _ (l .queue) (pairs .ensures .0) (l .inv .1) (l .inv .4) refl (l .inv .3 ∙ pre .1 .queue-long) (l .inv .5)
     (ran .result) _ _ _ _ (ran .ensures) told)
 
 slice-relend-prefix-load : tie.Need-slice-relend-prefix-load Inv-loop μ-loop
@@ -112,13 +112,13 @@ returns-2 c =
     let pre = c .before .before .before .before .before .before .before .before .before .before .before .before .before .before .before .before .before .before .before .before .before .before .before .before .before .before .before .before .before .before .before .before .before .before .before .before .before .before .before .before .pre in
     let l = c .before .before .before .before .before .before .before .before .before .before .before .before .before .before .before .before .before .before .before .before .before .before .before .before .before .loop in
     let ran = c .before .before .before .before .before .before .before .before .before .before .before .before .before .before .before .before .before .before .before .attempt in
-    let room = c .before .before .before .before .before .before .before .before .before .before .before .before .before .before .before .before .before .before .before .before .before .before .before .before .before .before .before .before .before .before .before .room-of in
+    let pairs = c .before .before .before .before .before .before .before .before .before .before .before .before .before .before .before .before .before .before .before .before .before .before .before .before .before .before .before .before .before .before .before .pairs-of in
     let f = flatView (now (s .t)) in
     let stops = sym (c .before .is-stopped .ensures) ∙ c .if2 .taken in
     stop-hands (now (s .state)) (now (s .outputs)) (ran .result) _ _ _ _ stops
     (stop-pass (f .events) (flatMachine f) (λ w. w) (now (s .state)) (now (s .outputs)) (s .event .0) (length (now (s .next)))
-    (length (now (s .kept))) (flat-machine-small (pre .0)) (flat-machine-tame (pre .0)) (pre .2) (room .result) (length (l .next)) (l .lent)
-    (l .outputs) _ (l .queue) (room .ensures .0) (l .inv .1) (l .inv .4) refl (l .inv .3 ∙ pre .1 .queue-long) (l .inv .5)
+    (length (now (s .kept))) (flat-machine-small (pre .0)) (flat-machine-tame (pre .0)) (pre .2) (pairs .result) (length (l .next)) (l .lent)
+    (l .outputs) _ (l .queue) (pairs .ensures .0) (l .inv .1) (l .inv .4) refl (l .inv .3 ∙ pre .1 .queue-long) (l .inv .5)
     (ran .result) _ _ _ _ (ran .ensures) _ _ (c .before .before .before .before .before .before .before .before .before .before .before .before .outputs .given .0) (c .before .before .before .before .before .before .before .before .before .before .before .before .before .before .before .before .before .before .before .before .before .before .before .before .before .before .before .before .load .ensures) (c .before .before .before .before .load2 .ensures) stops)
 
 loop-less : tie.Need-loop-less Inv-loop μ-loop
@@ -127,12 +127,12 @@ loop-less c =
     let pre = c .before .before .before .before .before .before .before .before .before .before .before .before .before .before .before .before .before .before .before .before .before .before .before .before .before .before .before .before .before .before .before .before .before .before .before .before .before .before .before .before .pre in
     let l = c .before .before .before .before .before .before .before .before .before .before .before .before .before .before .before .before .before .before .before .before .before .before .before .before .before .loop in
     let ran = c .before .before .before .before .before .before .before .before .before .before .before .before .before .before .before .before .before .before .before .attempt in
-    let room = c .before .before .before .before .before .before .before .before .before .before .before .before .before .before .before .before .before .before .before .before .before .before .before .before .before .before .before .before .before .before .before .room-of in
+    let pairs = c .before .before .before .before .before .before .before .before .before .before .before .before .before .before .before .before .before .before .before .before .before .before .before .before .before .before .before .before .before .before .before .pairs-of in
     let f = flatView (now (s .t)) in
     let again =
     again-pass (f .events) (flatMachine f) (λ w. w) (now (s .state)) (now (s .outputs)) (s .event .0) (length (now (s .next)))
-    (length (now (s .kept))) (flat-machine-small (pre .0)) (flat-machine-tame (pre .0)) (pre .2) (room .result) (length (l .next)) (l .lent)
-    (l .outputs) _ (l .queue) (room .ensures .0) (l .inv .1) (l .inv .4) refl (l .inv .3 ∙ pre .1 .queue-long) (l .inv .5)
+    (length (now (s .kept))) (flat-machine-small (pre .0)) (flat-machine-tame (pre .0)) (pre .2) (pairs .result) (length (l .next)) (l .lent)
+    (l .outputs) _ (l .queue) (pairs .ensures .0) (l .inv .1) (l .inv .4) refl (l .inv .3 ∙ pre .1 .queue-long) (l .inv .5)
     (ran .result) _ _ _ _ (ran .ensures) _ _ (c .before .before .before .before .before .before .before .before .before .before .before .before .outputs .given .0) (c .before .before .before .before .before .before .before .before .before .before .before .before .before .before .before .before .before .before .before .before .before .before .before .before .before .before .before .before .load .ensures) (c .before .before .before .before .load2 .ensures)
     (sym (c .before .is-stopped .ensures) ∙ c .if2 .left) (sym (c .before .before .before .before .before .before .before .before .is-told .ensures) ∙ c .before .before .before .before .before .before .before .if1 .left) in
     omega (arith, again .2)
@@ -143,12 +143,12 @@ loop-again c =
     let pre = c .before .before .before .before .before .before .before .before .before .before .before .before .before .before .before .before .before .before .before .before .before .before .before .before .before .before .before .before .before .before .before .before .before .before .before .before .before .before .before .before .pre in
     let l = c .before .before .before .before .before .before .before .before .before .before .before .before .before .before .before .before .before .before .before .before .before .before .before .before .before .loop in
     let ran = c .before .before .before .before .before .before .before .before .before .before .before .before .before .before .before .before .before .before .before .attempt in
-    let room = c .before .before .before .before .before .before .before .before .before .before .before .before .before .before .before .before .before .before .before .before .before .before .before .before .before .before .before .before .before .before .before .room-of in
+    let pairs = c .before .before .before .before .before .before .before .before .before .before .before .before .before .before .before .before .before .before .before .before .before .before .before .before .before .before .before .before .before .before .before .pairs-of in
     let f = flatView (now (s .t)) in
     let again =
     again-pass (f .events) (flatMachine f) (λ w. w) (now (s .state)) (now (s .outputs)) (s .event .0) (length (now (s .next)))
-    (length (now (s .kept))) (flat-machine-small (pre .0)) (flat-machine-tame (pre .0)) (pre .2) (room .result) (length (l .next)) (l .lent)
-    (l .outputs) _ (l .queue) (room .ensures .0) (l .inv .1) (l .inv .4) refl (l .inv .3 ∙ pre .1 .queue-long) (l .inv .5)
+    (length (now (s .kept))) (flat-machine-small (pre .0)) (flat-machine-tame (pre .0)) (pre .2) (pairs .result) (length (l .next)) (l .lent)
+    (l .outputs) _ (l .queue) (pairs .ensures .0) (l .inv .1) (l .inv .4) refl (l .inv .3 ∙ pre .1 .queue-long) (l .inv .5)
     (ran .result) _ _ _ _ (ran .ensures) _ _ (c .before .before .before .before .before .before .before .before .before .before .before .before .outputs .given .0) (c .before .before .before .before .before .before .before .before .before .before .before .before .before .before .before .before .before .before .before .before .before .before .before .before .before .before .before .before .load .ensures) (c .before .before .before .before .load2 .ensures)
     (sym (c .before .is-stopped .ensures) ∙ c .if2 .left) (sym (c .before .before .before .before .before .before .before .before .is-told .ensures) ∙ c .before .before .before .before .before .before .before .if1 .left) in (
       c .before .before .before .before .before .before .before .before .before .before .before .before .before .before .before .before .before .before .marks .given ∙ l .inv .0,

@@ -9,7 +9,7 @@ use lib.ListN.{length, take, drop}
 use lib.Seq.{length-take-le}
 use Rattle.effects.specs.declared.Progress.{Progress}
 use Rattle.effects.specs.Run.{Machine, macrostep}
-use Rattle.effects.specs.Lent.{roomFor, zeros}
+use Rattle.effects.specs.Lent.{pairsFor, zeros}
 use Rattle.flat.specs.View.{flatView}
 use Rattle.flat_meaning.specs.Steps.{flatMachine}
 use Rattle.macrostep.specs.Ends.{Ends}
@@ -17,10 +17,10 @@ use Rattle.flat_macrostep.proofs.run.Statement.{statement}
 use Rattle.flat_macrostep.proofs.run.Tie as tie
 
 -- a macrostep that begins with as many words
-as-many : (events room : ℕ) (m : Machine) (state outputs : List ℕ) (e j k : ℕ) (n : Progress) (state′ outputs′ : List ℕ) → j ≡ k
-    → Ends (λ w. w) state outputs n state′ outputs′ (macrostep events room m e (take j state) (drop j state))
-    → Ends (λ w. w) state outputs n state′ outputs′ (macrostep events room m e (take k state) (drop k state))
-as-many events room m state outputs e j k n state′ outputs′ z ends = rw z at ends
+as-many : (events pairs : ℕ) (m : Machine) (state outputs : List ℕ) (e j k : ℕ) (n : Progress) (state′ outputs′ : List ℕ) → j ≡ k
+    → Ends (λ w. w) state outputs n state′ outputs′ (macrostep events pairs m e (take j state) (drop j state))
+    → Ends (λ w. w) state outputs n state′ outputs′ (macrostep events pairs m e (take k state) (drop k state))
+as-many events pairs m state outputs e j k n state′ outputs′ z ends = rw z at ends
 
 slice-aggregate-run-on : tie.Need-slice-aggregate-run-on
 slice-aggregate-run-on c = sym (length-take-le (c .before .before .before .before .before .before .before .before .before .args .words) (zeros 24) (c .before .before .before .before .before .before .before .before .before .pre .3))
@@ -61,7 +61,7 @@ returns : tie.Need-returns
 returns c =
     let s = c .before .before .before .before .before .before .before .before .before .before .before .before .before .before .before .before .before .before .before .before .before .before .before .args in
     let f = flatView (now (s .t)) in
-    as-many (f .events) (roomFor (length (now (s .outputs)))) (flatMachine f) (now (s .state)) (now (s .outputs)) (s .event .0) _ (s .words)
+    as-many (f .events) (pairsFor (length (now (s .outputs)))) (flatMachine f) (now (s .state)) (now (s .outputs)) (s .event .0) _ (s .words)
     _ _ _ (length-take-le (s .words) (zeros 24) (c .before .before .before .before .before .before .before .before .before .before .before .before .before .before .before .before .before .before .before .before .before .before .before .pre .3)) (c .before .before .before .before .before .before .before .before .before .before .run-on .ensures)
 
 pub run-spec : {M : Type 1} → statement M

@@ -9,13 +9,13 @@ use denote.Ref.{now}
 use Rattle.words.specs.Loops.{allBelow}
 use Rattle.words.proofs.Loops.{allBelow-next, allBelow-no}
 use Rattle.flat.specs.View.{Flat, flatView}
-use Rattle.flat_rules.specs.Tests.{literalKept, goodGuard?}
+use Rattle.flat_rules.specs.Tests.{flatLiteralKept, goodGuard?}
 use Rattle.flat_rules.proofs.good_guard.Statement.{statement}
 use Rattle.flat_rules.proofs.good_guard.Tie as tie
 
 -- literal i of those that guard k holds
 abbrev held? : Flat → ℕ → ℕ → Bool
-held? f k i = literalKept f k (f .asks k .first + i)
+held? f k i = flatLiteralKept f k (f .asks k .first + i)
 
 abbrev Inv-loop : tie.InvT-loop
 Inv-loop t k at first count i₀ i = (i ≤ count) × (allBelow (held? (flatView t) k) i ≡ true)

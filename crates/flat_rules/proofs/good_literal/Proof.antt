@@ -1,5 +1,5 @@
 -- `flat_rules::good_literal` meets its contract: what it returns is what its callees say. Assumes nothing.
-use Rattle.flat_rules.specs.Tests.{goodLiteral?}
+use Rattle.flat_rules.specs.Tests.{goodFlatLiteral?}
 use Rattle.words.proofs.Tests.{ltb-yes, ltb-no}
 use denote.Ref.{now}
 use Rattle.flat.specs.View.{flatView}
@@ -9,7 +9,7 @@ use Rattle.flat_rules.proofs.good_literal.Statement.{statement}
 use Rattle.flat_rules.proofs.good_literal.Tie as tie
 
 returns : tie.Need-returns
-unfolding goodLiteral?
+unfolding goodFlatLiteral?
 returns c =
     let s = c .before .before .before .before .before .before .before .before .args in
     let kind = c .before .before .before .before .before .number-in .result in
@@ -17,7 +17,7 @@ returns c =
     rw (← k, ltb-yes kind 2 (c .before .before .if1 .taken)) cc
 
 returns-2 : tie.Need-returns-2
-unfolding goodLiteral?
+unfolding goodFlatLiteral?
 returns-2 c =
     let s = c .before .before .before .before .before .before .before .before .args in
     let kind = c .before .before .before .before .before .number-in .result in
@@ -25,7 +25,7 @@ returns-2 c =
     rw (← k, ltb-no kind 2 (c .before .before .if1 .left), ltb-yes kind 4 (c .before .if2 .taken)) cc
 
 returns-3 : tie.Need-returns-3
-unfolding goodLiteral?
+unfolding goodFlatLiteral?
 returns-3 c =
     let s = c .before .before .before .before .before .before .before .before .args in
     let kind = c .before .before .before .before .before .number-in .result in

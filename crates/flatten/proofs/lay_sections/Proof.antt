@@ -3,7 +3,7 @@ use borrow.Author.Needs.{needs}
 use native.Mathlib.Omega.{arith}
 use denote.Ref.{now}
 use Rattle.chart.specs.View.{view}
-use Rattle.laying.proofs.Laid.{laid-both}
+use Rattle.flatten_laying.proofs.Laid.{laid-both}
 use Rattle.flatten.specs.Numbers.{sections}
 use Rattle.flatten.proofs.Written.{spans-laid, literals-laid, spans-end, literals-end, items-most}
 use Rattle.flatten.proofs.lay_sections.Statement.{statement}

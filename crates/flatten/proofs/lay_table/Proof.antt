@@ -4,9 +4,9 @@ use mathlib.Core.Path.{_∙_, sym}
 use native.Mathlib.Omega.{arith}
 use denote.Ref.{now}
 use Rattle.chart.specs.View.{view}
-use Rattle.flattening.specs.Flattened.{flattened}
-use Rattle.flattening.proofs.Turns.{entered-first}
-use Rattle.laying.proofs.Laid.{laid-both, laid-as}
+use Rattle.flatten_meaning.specs.Flattened.{flattened}
+use Rattle.flatten_meaning.proofs.Turns.{entered-first}
+use Rattle.flatten_laying.proofs.Laid.{laid-both, laid-as}
 use Rattle.flatten.proofs.Written.{encode-is, encode-long, encode-few, heading-few, heading-laid}
 use Rattle.flatten.proofs.lay_table.Statement.{statement}
 use Rattle.flatten.proofs.lay_table.Tie as tie

@@ -4,9 +4,9 @@ use mathlib.Core.Path.{_∙_, sym}
 use native.Mathlib.Omega.{arith}
 use denote.Ref.{now}
 use Rattle.chart.specs.View.{view}
-use Rattle.meaning.proofs.Tree.{tree}
-use Rattle.flattening.proofs.Machines.{machines-are, states-are}
-use Rattle.flattening.proofs.Bounds.{or-few, and-few}
+use Rattle.chart_meaning.proofs.Tree.{tree}
+use Rattle.flatten_meaning.proofs.Machines.{machines-are, states-are}
+use Rattle.flatten_meaning.proofs.Bounds.{or-few, and-few}
 use Rattle.flatten.proofs.Written.{guards-counted, rules-counted, guards-most, literals-most, rules-most}
 use Rattle.flatten.proofs.sizes_of.Statement.{statement}
 use Rattle.flatten.proofs.sizes_of.Tie as tie

@@ -7,13 +7,13 @@ use native.Mathlib.Omega.{arith}
 use lib.Dec.{ltb}
 use Rattle.words.proofs.Tests.{past, ltb-no}
 use Rattle.table.specs.declared.Row.{Row}
-use Rattle.table.specs.declared.Counts.{Counts}
+use Rattle.table.specs.declared.ItemCounts.{ItemCounts}
 use Rattle.table.specs.Rows.{goodItem?, rowOf, inRow}
 use Rattle.table.proofs.good_item.Statement.{statement}
 use Rattle.table.proofs.good_item.Tie as tie
 
 -- what kind j's row says is so where the kind is j
-module _ {k j : ℕ} {r : Row} {x : Bool} (n : Counts) (a b : ℕ) where
+module _ {k j : ℕ} {r : Row} {x : Bool} (n : ItemCounts) (a b : ℕ) where
   by-row : k ≡ j → r ≡ rowOf j → x ≡ inRow r n a b → ltb j 6 ≡ true → x ≡ goodItem? n k a b
   unfolding goodItem?
   by-row e row told h = rw (e, h, ← row) told

@@ -1,6 +1,6 @@
 -- By computation. Assumes nothing.
 use mathlib.Core.Path.{refl}
-use Rattle.meaning.specs.Opened.{opened}
+use Rattle.chart_meaning.specs.Opened.{opened}
 use Rattle.olivrescum.proofs.theorems.examples.Statement.{statement}
 use Rattle.olivrescum.proofs.theorems.examples.Tie as tie
 

@@ -1,6 +1,6 @@
 -- A run's answer is determined by its numbers. Assumes nothing.
 use mathlib.Core.Path.{sym, _∙_}
-use Rattle.engine.proofs.Answers.{ran-once}
+use Rattle.chart_engine.proofs.Answers.{ran-once}
 use Rattle.olivrescum.proofs.theorems.run_determinate.Statement.{statement}
 use Rattle.olivrescum.proofs.theorems.run_determinate.Tie as tie
 

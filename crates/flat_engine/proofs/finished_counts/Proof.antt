@@ -1,0 +1,11 @@
+-- `flat_engine::finished_counts` meets its contract: each count is in its place. Assumes nothing.
+use borrow.Author.Needs.{needs}
+use Rattle.flat_engine.proofs.finished_counts.Statement.{statement}
+use Rattle.flat_engine.proofs.finished_counts.Tie as tie
+
+returns : tie.Need-returns
+returns c = cc
+
+pub finished-counts-spec : {M : Type 1} → statement M
+finished-counts-spec = tie.close (tie.spec
+    (λ c κs. search needs) (λ c κs. search needs) (λ c κs. search needs) returns)

@@ -1,0 +1,90 @@
+-- `flat_guards::do_all_fit` meets its contract: what is asked of all literals is asked of those left, and the literals before them have
+-- asked for their guards, which are smaller. Assumes nothing.
+use borrow.Author.Needs.{needs}
+use borrow.Author.Tests.{not-true, not-false}
+use mathlib.Core.Path.{_≡_, refl, sym}
+use mathlib.Core.Bool.{true≢false}
+use native.Mathlib.Omega.{arith}
+use lib.ListN.{length}
+use Rattle.flat.specs.View.{flatView}
+use Rattle.flat_rules.proofs.Readable.{flat-needs}
+use Rattle.flat_guards.specs.Parts.{fits, allFit}
+use Rattle.flat_guards.proofs.Spans.{Walk, walk-start, walk-end, walk-reads, walk-names, walk-smaller, walk-bad, walk-good}
+use Rattle.flat_guards.proofs.Asked.{Asked, asked-none, asked-next}
+use Rattle.flat_guards.proofs.do_all_fit.Statement.{statement}
+use Rattle.flat_guards.proofs.do_all_fit.Tie as tie
+
+abbrev Inv-loop : tie.InvT-loop
+Inv-loop t current vars marks₀ k at i₀ place₀ left₀ marks i place left =
+    Walk (fits (flatView t) current vars) t k i place left × (length marks ≡ length marks₀) × Asked (flatView t) k i marks₀ marks
+
+abbrev μ-loop : tie.MeasureT-loop
+μ-loop t current vars marks₀ k at i₀ place₀ left₀ marks i place left = left
+
+loop-holds : tie.Need-loop-holds Inv-loop μ-loop
+loop-holds c =
+    (walk-start (cc) (cc) (omega arith) (omega arith) (omega (arith, c .before .head .ensures)), refl, asked-none (cc))
+
+literal-at-requires : tie.Need-literal-at-requires Inv-loop μ-loop
+literal-at-requires c κs =
+    let p = c .before .before .before .before .before .before .before .before .before .before .pre in
+    walk-reads (c .before .loop .inv .0) (c .loop-test .taken) (p .0) (p .1)
+
+does-fit-requires : tie.Need-does-fit-requires Inv-loop μ-loop
+does-fit-requires c κs =
+    let p = c .before .before .before .before .before .before .before .before .before .before .before .pre in
+    let w = c .before .before .loop .inv .0 in
+    (p .0, walk-names w (c .before .loop-test .taken) (p .0) (p .1) (c .literal-at .ensures), p .3)
+
+returns : tie.Need-returns Inv-loop μ-loop
+unfolding allFit
+returns c =
+    let on = c .before .before .before .loop-test .taken in
+    let v = c .before .before .before .before .loop .inv in
+    let d = c .before .does-fit in (
+      sym (walk-bad (v .0) on (c .before .before .literal-at .ensures) (d .ensures) (not-true (d .result) (c .if1 .taken))),
+      (λ e. absurd (true≢false (sym e)), (v .2 .more, v .2 .above)),
+    )
+
+-- the guard that a literal asks for is smaller, so it has a mark
+ask-requires : tie.Need-ask-requires Inv-loop μ-loop
+ask-requires c κs =
+    let b = c .before .before .before in
+    let p = b .before .before .before .before .before .before .before .before .before .before .before .pre in
+    let v = b .before .before .loop .inv in
+    let smaller = walk-smaller (v .0) (b .before .loop-test .taken) (p .0) (p .1) (b .literal-at .ensures) in
+    λ a e. omega (arith, smaller a e, p .1, p .2, v .1)
+
+loop-again : tie.Need-loop-again Inv-loop μ-loop
+loop-again c =
+    let b = c .before .before .before .before .before .before in
+    let p = b .before .before .before .before .before .before .before .before .before .before .before .pre in
+    let v = b .before .before .loop .inv in
+    let on = b .before .loop-test .taken in
+    let read = b .literal-at .ensures in
+    let d = c .before .before .before .before .before .does-fit in
+    let smaller = walk-smaller (v .0) on (p .0) (p .1) read in (
+      walk-good (v .0) on read (d .ensures) (not-false (d .result) (c .before .before .before .before .if1 .left)),
+      search needs,
+      asked-next (v .2) read (c .before .before .ask .ensures) smaller (omega (arith, p .1, p .2, v .1)),
+    )
+
+returns-2 : tie.Need-returns-2 Inv-loop μ-loop
+unfolding allFit
+returns-2 c =
+    let v = c .before .loop .inv in (
+      sym (walk-end (v .0) (c .loop-test .left)),
+      (
+        λ e a n. v .2 .asked (n .literal) (n .from) (omega (arith, n .within, v .0 .until, c .loop-test .left)) a (n .asks),
+        (v .2 .more, v .2 .above),
+      ),
+    )
+
+pub do-all-fit-spec : {M : Type 1} → statement M
+do-all-fit-spec =
+    tie.close
+    (tie.spec
+    Inv-loop μ-loop (λ c κs. search flat-needs) (λ c κs. search needs) (λ c κs. search flat-needs) (λ c. search needs)
+    (λ c. search needs) (λ c. search needs) (λ c κs. search needs) loop-holds literal-at-requires does-fit-requires
+    (λ c. search needs) returns ask-requires (λ c. search needs) (λ c. search needs) (λ c. search needs) (λ c. search needs)
+    loop-again (λ c. search needs) returns-2)

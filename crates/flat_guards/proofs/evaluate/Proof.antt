@@ -1,0 +1,20 @@
+-- `flat_guards::evaluate` meets its contract: what is sifted, and then settled, is true. Assumes nothing.
+use borrow.Author.Needs.{needs}
+use denote.Ref.{now}
+use Rattle.flat.specs.View.{flatView}
+use Rattle.flat_guards.proofs.Settling.{settled-value}
+use Rattle.flat_guards.proofs.evaluate.Statement.{statement}
+use Rattle.flat_guards.proofs.evaluate.Tie as tie
+
+returns : tie.Need-returns
+returns c =
+    let start = c .before .before .before .before .before .before .before .before .before .before .before .before in
+    let s = start .args in
+    let sifted = c .before .before .before .before .before .before .sift .ensures in
+    let settled = c .before .before .settle .ensures in
+    λ k h asked.
+    settled-value (flatView (now (s .t))) (start .pre .0 .guards) (now (s .current)) (now (s .vars)) _ _ (sifted .1) settled k h
+    (sifted .0 k h asked)
+
+pub evaluate-spec : {M : Type 1} → statement M
+evaluate-spec = tie.close (tie.spec (λ c κs. search needs) (λ c κs. search needs) (λ c. search needs) returns)

@@ -1,0 +1,11 @@
+-- `flatten_pairs::is_inside` meets its contract: what it returns is what its callees say. Assumes nothing.
+use borrow.Author.Needs.{needs}
+use Rattle.flatten_pairs.proofs.is_inside.Statement.{statement}
+use Rattle.flatten_pairs.proofs.is_inside.Tie as tie
+
+returns : tie.Need-returns
+returns c = cc
+
+pub is-inside-spec : {M : Type 1} → statement M
+is-inside-spec = tie.close (tie.spec
+    (λ c κs. search needs) (λ c κs. search needs) (λ c κs. search needs) returns)
