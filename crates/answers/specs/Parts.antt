@@ -3,14 +3,14 @@
 use Prim.Native.Nat.{ℕ}
 use Rattle.table.specs.declared.Verdict.{Verdict}
 use Rattle.table.specs.declared.Verdict.the-variants.{Done as accepting, Refused as refusing}
-use Rattle.chart_engine.specs.declared.Counts.{Counts}
-use Rattle.chart_engine.specs.declared.ChartRun.{ChartRun}
-use Rattle.chart_engine.specs.declared.ChartRun.the-variants.{Done as ran, Refused as unrun}
-use Rattle.flat_engine.specs.declared.FlatCounts.{FlatCounts}
-use Rattle.flat_engine.specs.declared.FlatRun.{FlatRun}
-use Rattle.flat_engine.specs.declared.FlatRun.the-variants.{Done as flat-ran, Refused as flat-unrun}
-use Rattle.flatten.specs.declared.Flattening.{Flattening}
-use Rattle.flatten.specs.declared.Flattening.the-variants.{Done as flattened, Refused as unflattened}
+use Rattle.answers.specs.declared.Counts.{Counts}
+use Rattle.answers.specs.declared.ChartRun.{ChartRun}
+use Rattle.answers.specs.declared.ChartRun.the-variants.{Done as ran, Refused as unrun}
+use Rattle.answers.specs.declared.FlatCounts.{FlatCounts}
+use Rattle.answers.specs.declared.FlatRun.{FlatRun}
+use Rattle.answers.specs.declared.FlatRun.the-variants.{Done as flat-ran, Refused as flat-unrun}
+use Rattle.answers.specs.declared.Flattening.{Flattening}
+use Rattle.answers.specs.declared.Flattening.the-variants.{Done as flattened, Refused as unflattened}
 
 -- ---- a run of a chart
 abbrev pub verdictOf : ChartRun → Verdict

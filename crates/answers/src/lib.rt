@@ -1,15 +1,45 @@
-// Answers taken apart: the number and the place that 01's table "What a call can say" gives an answer, what a run or a
-// flattening says without its counts, and its counts. specs/Parts.antt has the definitions; 01's numbers themselves are
+// What the calls answer, and answers taken apart: the number and the place that 01's table "What a call can say" gives an answer,
+// what a run or a flattening says without its counts, and its counts. A check and a start answer with `table::Verdict`. specs/Parts.antt has the definitions; 01's numbers themselves are
 // those of `told` in table/specs/Answers.antt.
 ghost use mathlib.Core.Path.{_≡_};
 ghost use Rattle.table.specs.Answers.{refusalTold, told};
 ghost use Rattle.answers.specs.Parts.{verdictOf, countsOf, flatVerdictOf, flatCountsOf, flattenVerdictOf, tableWordsOf};
-use chart_engine::ChartRun;
-use flat_engine::FlatCounts;
-use flat_engine::FlatRun;
-use flatten::Flattening;
 use table::Refusal;
 use table::Verdict;
+
+// What a run of a chart says: done with its counts, or refused.
+pub enum ChartRun {
+    Done(Counts),
+    Refused(Refusal),
+}
+
+// What a finished macrostep of a chart counted.
+pub struct Counts {
+    pub microsteps: u32,
+    pub taken: u32,
+    pub left: u32,
+    pub entered: u32,
+    pub outputs: u32,
+}
+
+// What a run of a flat table says: done with its counts, or refused.
+pub enum FlatRun {
+    Done(FlatCounts),
+    Refused(Refusal),
+}
+
+// What a finished macrostep of a flat table counted.
+pub struct FlatCounts {
+    pub microsteps: u32,
+    pub fired: u32,
+    pub outputs: u32,
+}
+
+// What flattening says: done with the number of words written, or refused.
+pub enum Flattening {
+    Done(u32),
+    Refused(Refusal),
+}
 
 // An answer's number and its place.
 struct Answer(u32, u32);
@@ -82,12 +112,12 @@ pub fn verdict_of(run: ChartRun) -> Verdict
 }
 
 // Its counts: those of a refusal are 0.
-pub fn counts_of(run: ChartRun) -> chart_engine::Counts
+pub fn counts_of(run: ChartRun) -> Counts
     ensures { λ r. ⌜ r ≡ countsOf run ⌝ }
 {
     match run {
         ChartRun::Done(counts) => counts,
-        ChartRun::Refused(_) => chart_engine::Counts {
+        ChartRun::Refused(_) => Counts {
             microsteps: 0,
             taken: 0,
             left: 0,

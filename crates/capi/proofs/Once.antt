@@ -8,8 +8,8 @@ use lib.ListN.{set}
 use Rattle.table.specs.Answers.{told}
 use Rattle.table.specs.declared.Refusal.{Refusal}
 use Rattle.flatten.specs.Wrote.{flattenTold}
-use Rattle.flatten.specs.declared.Flattening.{Flattening}
-use Rattle.flatten.specs.declared.Flattening.the-variants.{Done, Refused}
+use Rattle.answers.specs.declared.Flattening.{Flattening}
+use Rattle.answers.specs.declared.Flattening.the-variants.{Done, Refused}
 use Rattle.answers.specs.Parts.{flattenVerdictOf, tableWordsOf}
 use Rattle.capi.specs.declared.Said.{Said}
 use Rattle.capi.specs.Said.{flattenSaid, reportOf, reported}

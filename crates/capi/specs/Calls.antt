@@ -4,9 +4,9 @@ use Prim.Native.Nat.{ℕ}
 use mathlib.Core.Path.{_≡_}
 use mathlib.Core.List.{List}
 use Rattle.table.specs.declared.Verdict.{Verdict}
-use Rattle.chart_engine.specs.declared.ChartRun.{ChartRun}
-use Rattle.flat_engine.specs.declared.FlatRun.{FlatRun}
-use Rattle.flatten.specs.declared.Flattening.{Flattening}
+use Rattle.answers.specs.declared.ChartRun.{ChartRun}
+use Rattle.answers.specs.declared.FlatRun.{FlatRun}
+use Rattle.answers.specs.declared.Flattening.{Flattening}
 use Rattle.olivrescum.specs.Promises.{ChartChecked, ChartStarted, ChartRan, ChartFlattened, FlatTableChecked, FlatTableStarted, FlatTableRan}
 use Rattle.capi.specs.declared.Said.{Said}
 use Rattle.capi.specs.Said.{verdictSaid, chartSaid, flatSaid, flattenSaid, reportOf, reported}

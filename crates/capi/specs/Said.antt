@@ -5,9 +5,9 @@ use Prim.Native.Nat.{ℕ}
 use mathlib.Core.List.{List, [], _∷_}
 use Rattle.table.specs.Answers.{told}
 use Rattle.table.specs.declared.Verdict.{Verdict}
-use Rattle.chart_engine.specs.declared.ChartRun.{ChartRun}
-use Rattle.flat_engine.specs.declared.FlatRun.{FlatRun}
-use Rattle.flatten.specs.declared.Flattening.{Flattening}
+use Rattle.answers.specs.declared.ChartRun.{ChartRun}
+use Rattle.answers.specs.declared.FlatRun.{FlatRun}
+use Rattle.answers.specs.declared.Flattening.{Flattening}
 use Rattle.answers.specs.Parts.{verdictOf, countsOf, flatVerdictOf, flatCountsOf, flattenVerdictOf, tableWordsOf}
 use Rattle.capi.specs.declared.Said.{Said}
 

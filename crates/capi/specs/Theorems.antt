@@ -9,7 +9,7 @@ use Rattle.capi.specs.Calls.{ChartCheckedForC, ChartStartedForC, ChartRa
 
 -- For each call: two outcomes that keep the promise on the same words return the same number, m and n, and leave the same
 -- words: the report's, x and y, and those of state, outputs and room.
-pub record Determinate : Type 0 where
+pub record DeterminateForC : Type 0 where
   pub check-chart : (chart before : List ℕ) (m n : ℕ) (x y : List ℕ)
       → ChartCheckedForC chart before m x → ChartCheckedForC chart before n y → (m ≡ n) × (x ≡ y)
   pub start-chart : (chart state before : List ℕ) (m n : ℕ) (state-m state-n x y : List ℕ)

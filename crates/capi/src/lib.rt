@@ -9,9 +9,9 @@ ghost use lib.ListN.{set};
 ghost use Rattle.capi.specs.Said.{verdictSaid, chartSaid, flatSaid, flattenSaid, reportOf, reported};
 ghost use Rattle.capi.specs.Calls.{ChartCheckedForC, ChartStartedForC, ChartRanForC, ChartFlattenedForC};
 ghost use Rattle.capi.specs.Calls.{FlatCheckedForC, FlatStartedForC, FlatRanForC};
-use chart_engine::ChartRun;
-use flat_engine::FlatRun;
-use flatten::Flattening;
+use answers::ChartRun;
+use answers::FlatRun;
+use answers::Flattening;
 use table::Verdict;
 
 // Is this a chart table?

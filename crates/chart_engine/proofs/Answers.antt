@@ -22,8 +22,8 @@ use Rattle.chart_check.proofs.Exact.{exact}
 use Rattle.chart_meaning.specs.State.{stateLength, stateOf?}
 use Rattle.chart_meaning.specs.Calls.{Ran, refusedRun, startedOn, startChart, ranOn, ranAccepted, runChart}
 use Rattle.chart_engine.specs.Told.{ranTold}
-use Rattle.chart_engine.specs.declared.ChartRun.{ChartRun}
-use Rattle.chart_engine.specs.declared.ChartRun.the-variants.{Done, Refused}
+use Rattle.answers.specs.declared.ChartRun.{ChartRun}
+use Rattle.answers.specs.declared.ChartRun.the-variants.{Done, Refused}
 
 -- ---- what the check's answer v makes of a call
 module _ (t : List ℕ) (v : Verdict) (e : told v ≡ chartAnswer t) where

@@ -16,8 +16,8 @@ use Rattle.chart_meaning.specs.Steps.{chartMachine, rest}
 use Rattle.chart_meaning.specs.State.{orStates}
 use Rattle.chart_meaning.specs.Calls.{finished, ranOn}
 use Rattle.chart_engine.specs.Told.{ranTold, finishedCounts}
-use Rattle.chart_engine.specs.declared.Counts.{Counts}
-use Rattle.chart_engine.specs.declared.ChartRun.the-variants.{Done, Refused}
+use Rattle.answers.specs.declared.Counts.{Counts}
+use Rattle.answers.specs.declared.ChartRun.the-variants.{Done, Refused}
 
 module _ (t state outputs : List ℕ) (n : Progress) (state′ outputs′ : List ℕ) where
   stopped-told : {meant : Result St} → Ends (rest (view t)) state outputs n state′ outputs′ meant → stopped? n ≡ true

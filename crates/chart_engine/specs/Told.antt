@@ -5,9 +5,9 @@ use Rattle.table.specs.Answers.{refusalTold}
 use Rattle.effects.specs.declared.Progress.{Progress}
 use Rattle.effects.specs.Work.{firedOf, leftOf, enteredOf, microOf, outsOf}
 use Rattle.chart_meaning.specs.Calls.{Ran, refusedRun}
-use Rattle.chart_engine.specs.declared.Counts.{Counts}
-use Rattle.chart_engine.specs.declared.ChartRun.{ChartRun}
-use Rattle.chart_engine.specs.declared.ChartRun.the-variants.{Done, Refused}
+use Rattle.answers.specs.declared.Counts.{Counts}
+use Rattle.answers.specs.declared.ChartRun.{ChartRun}
+use Rattle.answers.specs.declared.ChartRun.the-variants.{Done, Refused}
 
 abbrev pub ranTold : ChartRun → List ℕ → List ℕ → Ran
 ranTold (Done n) state outputs = record {

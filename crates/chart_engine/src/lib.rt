@@ -9,26 +9,13 @@ ghost use Rattle.chart_meaning.specs.Calls.{startedOn, startChart, ranOn, ranAc
 ghost use Rattle.states.specs.Cells.{cells};
 ghost use Rattle.chart_macrostep.specs.Tried.{Lent};
 ghost use Rattle.chart_engine.specs.Told.{ranTold, finishedCounts};
+use answers::ChartRun;
+use answers::Counts;
 use effects::Progress;
 use states::StateSet;
 use table::Refusal;
 use table::Trigger;
 use table::Verdict;
-
-// What a run of a chart says: done with its counts, or refused.
-pub enum ChartRun {
-    Done(Counts),
-    Refused(Refusal),
-}
-
-// What a finished macrostep counted.
-pub struct Counts {
-    pub microsteps: u32,
-    pub taken: u32,
-    pub left: u32,
-    pub entered: u32,
-    pub outputs: u32,
-}
 
 // What is reported of a finished macrostep.
 fn finished_counts(n: Progress) -> Counts

@@ -2,6 +2,7 @@
 // has the statements.
 ghost use Rattle.chart_meaning.specs.Theorems.{Configured, StartIsState, RunLeavesState, ScopeIsNearest};
 ghost use Rattle.chart_meaning.specs.Theorems.{StateHasChildren, MicrostepKeepsChildren, SameInTurn};
+ghost use Rattle.chart_meaning.specs.Examples.{Examples};
 
 // The active states of a state are a configuration.
 pub fn configured()
@@ -36,4 +37,9 @@ pub fn microstep_keeps_children()
 // Carrying out the taken transitions one after another is reading the microstep's start for all.
 pub fn same_in_turn()
     ensures { λ r. ⌜ SameInTurn ⌝ }
+{}
+
+// The document's examples: the aid chart's start and seven steps, and the adds.
+pub fn examples()
+    ensures { λ r. ⌜ Examples ⌝ }
 {}

@@ -20,8 +20,8 @@ use Rattle.flat_check.proofs.Exact.{exact}
 use Rattle.flat_meaning.specs.State.{flatStateOf?}
 use Rattle.flat_meaning.specs.Calls.{FlatRan, refusedFlatRun, flatStartedOn, startFlat, flatRanOn, flatRanAccepted, runFlat}
 use Rattle.flat_engine.specs.Told.{flatRanTold}
-use Rattle.flat_engine.specs.declared.FlatRun.{FlatRun}
-use Rattle.flat_engine.specs.declared.FlatRun.the-variants.{Done, Refused}
+use Rattle.answers.specs.declared.FlatRun.{FlatRun}
+use Rattle.answers.specs.declared.FlatRun.the-variants.{Done, Refused}
 
 -- ---- what the check's answer v makes of a call
 module _ (t : List ℕ) (v : Verdict) (e : told v ≡ flatAnswer t) where

@@ -15,8 +15,8 @@ use Rattle.flat.specs.View.{flatView}
 use Rattle.flat_meaning.specs.Steps.{flatMachine}
 use Rattle.flat_meaning.specs.Calls.{flatFinished, flatRanOn}
 use Rattle.flat_engine.specs.Told.{flatRanTold, finishedFlatCounts}
-use Rattle.flat_engine.specs.declared.FlatCounts.{FlatCounts}
-use Rattle.flat_engine.specs.declared.FlatRun.the-variants.{Done, Refused}
+use Rattle.answers.specs.declared.FlatCounts.{FlatCounts}
+use Rattle.answers.specs.declared.FlatRun.the-variants.{Done, Refused}
 
 module _ (state outputs : List ℕ) (n : Progress) (state′ outputs′ : List ℕ) where
   stopped-told : {meant : Result St} → Ends (λ w. w) state outputs n state′ outputs′ meant → stopped? n ≡ true

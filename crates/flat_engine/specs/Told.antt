@@ -5,9 +5,9 @@ use Rattle.table.specs.Answers.{refusalTold}
 use Rattle.effects.specs.Work.{microOf, firedOf, outsOf}
 use Rattle.effects.specs.declared.Progress.{Progress}
 use Rattle.flat_meaning.specs.Calls.{FlatRan, refusedFlatRun}
-use Rattle.flat_engine.specs.declared.FlatCounts.{FlatCounts}
-use Rattle.flat_engine.specs.declared.FlatRun.{FlatRun}
-use Rattle.flat_engine.specs.declared.FlatRun.the-variants.{Done, Refused}
+use Rattle.answers.specs.declared.FlatCounts.{FlatCounts}
+use Rattle.answers.specs.declared.FlatRun.{FlatRun}
+use Rattle.answers.specs.declared.FlatRun.the-variants.{Done, Refused}
 
 abbrev pub flatRanTold : FlatRun → List ℕ → List ℕ → FlatRan
 flatRanTold (Done n) state outputs = record {

@@ -12,23 +12,12 @@ ghost use Rattle.flat_check.specs.Answer.{flatAnswer};
 ghost use Rattle.flat_meaning.specs.State.{goodFlatWord?, flatLength, flatStateOf?, flatStartWords};
 ghost use Rattle.flat_meaning.specs.Calls.{flatStartedOn, startFlat, flatRanOn, flatRanAccepted, runFlat};
 ghost use Rattle.flat_engine.specs.Told.{flatRanTold, finishedFlatCounts};
+use answers::FlatCounts;
+use answers::FlatRun;
 use effects::Progress;
 use table::Refusal;
 use table::Trigger;
 use table::Verdict;
-
-// What a run of a flat table says: done with its counts, or refused.
-pub enum FlatRun {
-    Done(FlatCounts),
-    Refused(Refusal),
-}
-
-// What a finished macrostep counted.
-pub struct FlatCounts {
-    pub microsteps: u32,
-    pub fired: u32,
-    pub outputs: u32,
-}
 
 // Whether every machine's word is a state of it.
 fn good_words(t: &[u16], current: &[u16]) -> bool

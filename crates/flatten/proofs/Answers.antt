@@ -18,7 +18,7 @@ use Rattle.chart_check.proofs.Exact.{exact}
 use Rattle.effects.proofs.Calls.{call-refused}
 use Rattle.flatten_meaning.specs.Room.{roomNeeded}
 use Rattle.flatten.specs.Wrote.{flattenAnswer, Wrote, refuses}
-use Rattle.flatten.specs.declared.Flattening.the-variants.{Refused}
+use Rattle.answers.specs.declared.Flattening.the-variants.{Refused}
 
 -- ---- what the check's answer v makes of a call
 module _ (t : List ℕ) (v : Verdict) (e : told v ≡ chartAnswer t) where

@@ -15,8 +15,8 @@ use Rattle.flatten_meaning.specs.Room.{roomNeeded}
 use Rattle.flatten_meaning.specs.Flattened.{flattened}
 use Rattle.flatten_meaning.specs.Encoded.{encode}
 use Rattle.flatten_laying.specs.Lay.{lay}
-use Rattle.flatten.specs.declared.Flattening.{Flattening}
-use Rattle.flatten.specs.declared.Flattening.the-variants.{Done, Refused}
+use Rattle.answers.specs.declared.Flattening.{Flattening}
+use Rattle.answers.specs.declared.Flattening.the-variants.{Done, Refused}
 
 abbrev pub flattenTold : Flattening → ℕ × ℕ
 flattenTold (Done n) = (0, 0)

@@ -14,17 +14,12 @@ ghost use Rattle.flatten_laying.specs.Lay.{lay};
 ghost use Rattle.flatten_head.specs.Sizes.{SizesOf};
 ghost use Rattle.flatten.specs.Numbers.{Numbers, sections};
 ghost use Rattle.flatten.specs.Wrote.{Wrote};
+use answers::Flattening;
 use flatten_guards::Pen;
 use flatten_head::Sizes;
 use states::StateSet;
 use table::Refusal;
 use table::Verdict;
-
-// What flattening says: done with the number of words written, or refused.
-pub enum Flattening {
-    Done(u32),
-    Refused(Refusal),
-}
 
 // How many records of each kind the flat table has: guards and rules are counted by laying them into an empty room.
 fn sizes_of(

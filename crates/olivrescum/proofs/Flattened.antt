@@ -24,8 +24,8 @@ use Rattle.flatten_meaning.proofs.FlatTable.{flat-table-of}
 use Rattle.flatten_laying.specs.Lay.{lay}
 use Rattle.flatten_laying.proofs.Lay.{lay-front, lay-length, lay-behind}
 use Rattle.flatten.specs.Wrote.{flattenTold, flattenAnswer, Wrote, refuses, wrote}
-use Rattle.flatten.specs.declared.Flattening.{Flattening}
-use Rattle.flatten.specs.declared.Flattening.the-variants.{Done, Refused}
+use Rattle.answers.specs.declared.Flattening.{Flattening}
+use Rattle.answers.specs.declared.Flattening.the-variants.{Done, Refused}
 use Rattle.olivrescum.specs.Promises.{FlatTableWritten, ChartFlattened}
 
 done? : Flattening → Bool

@@ -1,5 +1,3 @@
--- Start here. `Promises`: what each public call promises; `Theorems`: what is proved of the promises themselves;
--- `Examples`: the examples of document 01.
+-- Start here. `Promises`: what each public call promises; `Theorems`: what is proved of the promises themselves.
 pub mod Promises
 pub mod Theorems
-pub mod Examples

@@ -11,15 +11,15 @@ use Rattle.chart_check.specs.Answer.{chartAnswer}
 use Rattle.chart_meaning.specs.Calls.{startChart, runChart}
 use Rattle.effects.specs.Lent.{startTold}
 use Rattle.chart_engine.specs.Told.{ranTold}
-use Rattle.chart_engine.specs.declared.ChartRun.{ChartRun}
+use Rattle.answers.specs.declared.ChartRun.{ChartRun}
 use Rattle.flat_check.specs.Answer.{flatAnswer}
 use Rattle.flat_meaning.specs.Calls.{startFlat, runFlat}
 use Rattle.flat_engine.specs.Told.{flatRanTold}
-use Rattle.flat_engine.specs.declared.FlatRun.{FlatRun}
+use Rattle.answers.specs.declared.FlatRun.{FlatRun}
 use Rattle.flatten_meaning.specs.FlatTable.{FlatTableOf}
 use Rattle.flatten.specs.Wrote.{flattenTold, flattenAnswer}
-use Rattle.flatten.specs.declared.Flattening.{Flattening}
-use Rattle.flatten.specs.declared.Flattening.the-variants.{Done, Refused}
+use Rattle.answers.specs.declared.Flattening.{Flattening}
+use Rattle.answers.specs.declared.Flattening.the-variants.{Done, Refused}
 
 -- ---- charts
 -- check_chart. 01, What a call can say, rows 1 to 9; Order: "the table by rising number and then lowest place". Demand 2: "A chart

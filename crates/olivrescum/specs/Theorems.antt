@@ -8,15 +8,15 @@ use Rattle.table.specs.declared.Refusal.{Refusal}
 use Rattle.table.specs.declared.Verdict.{Verdict}
 use Rattle.chart_rules.specs.Rules.{ChartRules}
 use Rattle.chart_check.specs.Answer.{chartRules, chartAnswer}
-use Rattle.chart_engine.specs.declared.ChartRun.{ChartRun}
+use Rattle.answers.specs.declared.ChartRun.{ChartRun}
 use Rattle.chart_check.specs.RuleByRule.{RulesNumbered}
 use Rattle.flat_rules.specs.Rules.{FlatRules}
 use Rattle.flat_check.specs.Answer.{flatRules, flatAnswer}
 use Rattle.flat_check.specs.RuleByRule.{FlatRulesNumbered}
-use Rattle.flat_engine.specs.declared.FlatRun.{FlatRun}
+use Rattle.answers.specs.declared.FlatRun.{FlatRun}
 use Rattle.flatten.specs.Wrote.{flattenTold}
-use Rattle.flatten.specs.declared.Flattening.{Flattening}
-use Rattle.flatten.specs.declared.Flattening.the-variants.{Refused}
+use Rattle.answers.specs.declared.Flattening.{Flattening}
+use Rattle.answers.specs.declared.Flattening.the-variants.{Refused}
 use Rattle.olivrescum.specs.Promises.{ChartChecked, ChartStarted, ChartRan, FlatTableChecked, FlatTableStarted, FlatTableRan, ChartFlattened}
 
 -- Demand 2: "A chart table is accepted exactly when it keeps 01's rules."
@@ -36,20 +36,11 @@ RefusedAtLowest = (chart : List ℕ) → Judged 1 (chartRules chart) (chartAnswe
 abbrev pub RuleByRule : Type 0
 RuleByRule = (chart : List ℕ) → RulesNumbered chart
 
--- 01, What the promises say: "inputs determine the answer and every lent word afterwards, refusals too".
-abbrev pub CheckDeterminate : Type 0
-CheckDeterminate = (chart : List ℕ) (a b : Verdict) → ChartChecked chart a → ChartChecked chart b → a ≡ b
-
-abbrev pub StartDeterminate : Type 0
-StartDeterminate =
-    (chart state : List ℕ) (a b : Verdict) (after-a after-b : List ℕ)
-    → ChartStarted chart state a after-a → ChartStarted chart state b after-b → (a ≡ b) × (after-a ≡ after-b)
-
-abbrev pub RunDeterminate : Type 0
-RunDeterminate =
-    (chart state : List ℕ) (event : ℕ) (outputs : List ℕ) (a b : ChartRun) (state-a state-b outputs-a outputs-b : List ℕ)
-    → ChartRan chart state event outputs a state-a outputs-a → ChartRan chart state event outputs b state-b outputs-b
-    → (a ≡ b) × (state-a ≡ state-b) × (outputs-a ≡ outputs-b)
+-- What the check of a chart table is.
+pub record ChartCheckExact : Type 0 where
+  pub accepted-exactly : AcceptedExactly
+  pub refused-at-lowest : RefusedAtLowest
+  pub rule-by-rule : RuleByRule
 
 -- ---- the same of flat tables
 abbrev pub FlatAcceptedExactly : Type 0
@@ -64,6 +55,27 @@ FlatRefusedAtLowest = (flat : List ℕ) → Judged 11 (flatRules flat) (flatAnsw
 -- bad one"; "an item", at the item; "any field of a rule", at the rule.
 abbrev pub FlatRuleByRule : Type 0
 FlatRuleByRule = (flat : List ℕ) → FlatRulesNumbered flat
+
+pub record FlatCheckExact : Type 0 where
+  pub accepted-exactly : FlatAcceptedExactly
+  pub refused-at-lowest : FlatRefusedAtLowest
+  pub rule-by-rule : FlatRuleByRule
+
+-- ---- one outcome
+-- 01, What the promises say: "inputs determine the answer and every lent word afterwards, refusals too".
+abbrev pub CheckDeterminate : Type 0
+CheckDeterminate = (chart : List ℕ) (a b : Verdict) → ChartChecked chart a → ChartChecked chart b → a ≡ b
+
+abbrev pub StartDeterminate : Type 0
+StartDeterminate =
+    (chart state : List ℕ) (a b : Verdict) (after-a after-b : List ℕ)
+    → ChartStarted chart state a after-a → ChartStarted chart state b after-b → (a ≡ b) × (after-a ≡ after-b)
+
+abbrev pub RunDeterminate : Type 0
+RunDeterminate =
+    (chart state : List ℕ) (event : ℕ) (outputs : List ℕ) (a b : ChartRun) (state-a state-b outputs-a outputs-b : List ℕ)
+    → ChartRan chart state event outputs a state-a outputs-a → ChartRan chart state event outputs b state-b outputs-b
+    → (a ≡ b) × (state-a ≡ state-b) × (outputs-a ≡ outputs-b)
 
 abbrev pub FlatCheckDeterminate : Type 0
 FlatCheckDeterminate = (flat : List ℕ) (a b : Verdict) → FlatTableChecked flat a → FlatTableChecked flat b → a ≡ b
@@ -85,3 +97,13 @@ FlattenDeterminate =
     (chart room : List ℕ) (a b : Flattening) (after-a after-b : List ℕ)
     → ChartFlattened chart room a after-a → ChartFlattened chart room b after-b
     → (flattenTold a ≡ flattenTold b) × ((r : Refusal) → a ≡ Refused r → (b ≡ Refused r) × (after-a ≡ after-b))
+
+-- What is promised of each call leaves it one outcome.
+pub record Determinate : Type 0 where
+  pub check-chart : CheckDeterminate
+  pub start-chart : StartDeterminate
+  pub run-chart : RunDeterminate
+  pub flatten : FlattenDeterminate
+  pub check-flat : FlatCheckDeterminate
+  pub start-flat : FlatStartDeterminate
+  pub run-flat : FlatRunDeterminate

@@ -4,9 +4,9 @@ pub mod theorems;
 
 ghost use Rattle.olivrescum.specs.Promises.{ChartChecked, ChartStarted, ChartRan};
 ghost use Rattle.olivrescum.specs.Promises.{FlatTableChecked, FlatTableStarted, FlatTableRan, ChartFlattened};
-use chart_engine::ChartRun;
-use flat_engine::FlatRun;
-use flatten::Flattening;
+use answers::ChartRun;
+use answers::FlatRun;
+use answers::Flattening;
 use table::Verdict;
 
 // Is this a chart table?

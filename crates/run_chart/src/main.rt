@@ -68,7 +68,7 @@ fn put_run(
     text: &mut Text,
     at: usize,
     event: u8,
-    run: chart_engine::ChartRun,
+    run: answers::ChartRun,
     outputs: &[u16],
 ) -> usize {
     let counts = answers::counts_of(run);

@@ -144,7 +144,7 @@ pub fn put_field(text: &mut Text, at: usize, number: u32) -> usize {
 }
 
 // Puts a field for each count of a run but its outputs.
-pub fn put_counts(text: &mut Text, at: usize, counts: chart_engine::Counts) -> usize {
+pub fn put_counts(text: &mut Text, at: usize, counts: answers::Counts) -> usize {
     let at = put_field(text, at, counts.microsteps);
     let at = put_field(text, at, counts.taken);
     let at = put_field(text, at, counts.left);

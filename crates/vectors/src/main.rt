@@ -3,7 +3,7 @@
 // flattening. Each call has a function that runs it and prints its lines; `run_case` knows which call has which number.
 ghost use mathlib.Core.Path.{_≡_};
 ghost use Prim.Native.Nat.{_+_, _*_, _<_, _%_};
-use flatten::Flattening;
+use answers::Flattening;
 use shell::Text;
 use table::Verdict;
 
@@ -109,7 +109,7 @@ fn run_chart_in(
 }
 
 // Puts what a run of a chart says: call, answer, place and the counts.
-fn put_run(text: &mut Text, at: usize, run: chart_engine::ChartRun) -> usize {
+fn put_run(text: &mut Text, at: usize, run: answers::ChartRun) -> usize {
     let counts = answers::counts_of(run);
     let at = put_answer(text, at, 3, answers::verdict_of(run));
     let at = shell::put_counts(text, at, counts);
@@ -145,7 +145,7 @@ fn run_flat_in(
 }
 
 // Puts what a run of a flat table says: call, answer, place and the counts.
-fn put_flat_run(text: &mut Text, at: usize, run: flat_engine::FlatRun) -> usize {
+fn put_flat_run(text: &mut Text, at: usize, run: answers::FlatRun) -> usize {
     let counts = answers::flat_counts_of(run);
     let at = put_answer(text, at, 6, answers::flat_verdict_of(run));
     let at = shell::put_field(text, at, counts.microsteps);
@@ -306,7 +306,7 @@ fn run_pair_in(
 }
 
 // Puts the line of an event as far as the outputs: a dot, answer, microsteps, number of outputs, and their checksum.
-fn put_flat_event(text: &mut Text, at: usize, run: flat_engine::FlatRun, outputs: &[u16]) -> usize {
+fn put_flat_event(text: &mut Text, at: usize, run: answers::FlatRun, outputs: &[u16]) -> usize {
     let counts = answers::flat_counts_of(run);
     let at = shell::put_byte(text, at, b'.');
     let at = shell::put_field(text, at, answers::number_of(answers::flat_verdict_of(run)));
@@ -322,7 +322,7 @@ fn checksum_behind(words: &[u16], from: usize) -> u32 {
 }
 
 // Whether the rules fired number at most the states left and entered and the transitions taken.
-fn is_within_bound(counts: chart_engine::Counts, flat: flat_engine::FlatCounts) -> bool {
+fn is_within_bound(counts: answers::Counts, flat: answers::FlatCounts) -> bool {
     flat.fired as u64 <= counts.left as u64 + counts.entered as u64 + counts.taken as u64
 }
 

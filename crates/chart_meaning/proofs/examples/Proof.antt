@@ -1,8 +1,8 @@
 -- By computation. Assumes nothing.
 use mathlib.Core.Path.{refl}
 use Rattle.chart_meaning.specs.Opened.{opened}
-use Rattle.olivrescum.proofs.theorems.examples.Statement.{statement}
-use Rattle.olivrescum.proofs.theorems.examples.Tie as tie
+use Rattle.chart_meaning.proofs.examples.Statement.{statement}
+use Rattle.chart_meaning.proofs.examples.Tie as tie
 
 returns : tie.Need-returns
 unfolding opened
