@@ -16,7 +16,7 @@ use Rattle.effects.specs.Work.{plus, one, bitsOf, stopped?, refusalOf}
 
 -- what `counts` holds, and what `rest` holds
 unfoldable pub packCounts : ℕ → ℕ → ℕ → ℕ
-packCounts taken left entered = taken * 1099511627776 + left * 1048576 + entered
+packCounts fired left entered = fired * 1099511627776 + left * 1048576 + entered
 
 unfoldable pub packRest : ℕ → ℕ → ℕ → ℕ → ℕ
 packRest micro tail head outs = micro * 281474976710656 + tail * 4294967296 + head * 65536 + outs
@@ -24,22 +24,22 @@ packRest micro tail head outs = micro * 281474976710656 + tail * 4294967296 + he
 abbrev pub progress : ℕ → ℕ → Progress
 progress counts rest = record { counts = counts; rest = rest }
 
--- ---- states left and entered, transitions taken
-module _ (taken left entered : ℕ) where
-  pub taken-is : left < 1048576 → entered < 1048576 → packCounts taken left entered / 1099511627776 ≡ taken
+-- ---- states left and entered, transitions or rules fired
+module _ (fired left entered : ℕ) where
+  pub fired-is : left < 1048576 → entered < 1048576 → packCounts fired left entered / 1099511627776 ≡ fired
   unfolding packCounts
-  taken-is l e = omega arith
+  fired-is l e = omega arith
 
-  pub left-is : left < 1048576 → entered < 1048576 → packCounts taken left entered / 1048576 % 1048576 ≡ left
+  pub left-is : left < 1048576 → entered < 1048576 → packCounts fired left entered / 1048576 % 1048576 ≡ left
   unfolding packCounts
   left-is l e = omega arith
 
-  pub entered-is : entered < 1048576 → packCounts taken left entered % 1048576 ≡ entered
+  pub entered-is : entered < 1048576 → packCounts fired left entered % 1048576 ≡ entered
   unfolding packCounts
   entered-is e = omega arith
 
-  pub one-more : (g : Tag) → taken < 1048576 → left < 1048576 → entered < 1048576
-      → plus (packCounts taken left entered) (one g) ≡ packCounts (taken + isFire g) (left + isLeave g) (entered + isEnter g)
+  pub one-more : (g : Tag) → fired < 1048576 → left < 1048576 → entered < 1048576
+      → plus (packCounts fired left entered) (one g) ≡ packCounts (fired + isFire g) (left + isLeave g) (entered + isEnter g)
   unfolding packCounts
   one-more leave t l e = omega arith
   one-more fire t l e = omega arith

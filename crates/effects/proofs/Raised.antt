@@ -9,7 +9,7 @@ use Rattle.table.specs.Triple.{Triple}
 use Rattle.table.specs.Span.{Span, Inside}
 use Rattle.table.specs.Items.{itemOf, itemIn}
 use Rattle.table.specs.Rows.{GoodItem, emit, raise, wrapAdd, satAdd, set, log}
-use Rattle.table.specs.declared.Counts.{Counts}
+use Rattle.table.specs.declared.ItemCounts.{ItemCounts}
 use Rattle.table.specs.declared.Item.{Item}
 use Rattle.table.specs.declared.Item.the-variants.{Emit, Raise, WrapAdd, SatAdd, Set, Log}
 use Rattle.effects.specs.Run.{Step, Machine, doesOf}
@@ -46,7 +46,7 @@ many-small f first zero h = tt
 many-small f first (suc count) h = (h first (omega arith), many-small f (suc first) count (λ i l. h i (omega arith)))
 
 -- a good item of a table with at most 32 signals
-good-small : (n : Counts) (k a b : ℕ) → n .signals ≤ 32 → GoodItem n k a b → SmallItem (itemOf k a b)
+good-small : (n : ItemCounts) (k a b : ℕ) → n .signals ≤ 32 → GoodItem n k a b → SmallItem (itemOf k a b)
 unfolding itemOf
 good-small n _ a _ few (emit h) = tt
 good-small n _ a _ few (raise h) = omega arith
@@ -56,7 +56,7 @@ good-small n _ a b few (set h) = tt
 good-small n _ a b few (log h g) = tt
 
 -- a span inside a table's items, where all of them are good
-pub span-small : (n : Counts) (item : ℕ → Triple) (items : ℕ) → n .signals ≤ 32
+pub span-small : (n : ItemCounts) (item : ℕ → Triple) (items : ℕ) → n .signals ≤ 32
     → ((i : ℕ) → i < items → GoodItem n (item i .kind) (item i .a) (item i .b))
     → (s : Span) → Inside s items → AllSmall (many (λ i. itemIn (item i)) (s .first) (s .count))
 span-small n item items few good s inside =

@@ -30,19 +30,19 @@ count-all [] = refl
 count-all (x ∷ xs) = omega (arith, one-of (x .tag), count-all xs)
 
 -- as is meant
-pub tallies-are : (xs : List Step) (taken left entered : ℕ)
-    → taken + length xs < 1048576 → left + length xs < 1048576 → entered + length xs < 1048576
-    → tallies xs (packCounts taken left entered)
-    ≡ packCounts (taken + count isFire xs) (left + count isLeave xs) (entered + count isEnter xs)
-tallies-are [] taken left entered t l e = simp add-zero
-tallies-are (x ∷ xs) taken left entered t l e =
+pub tallies-are : (xs : List Step) (fired left entered : ℕ)
+    → fired + length xs < 1048576 → left + length xs < 1048576 → entered + length xs < 1048576
+    → tallies xs (packCounts fired left entered)
+    ≡ packCounts (fired + count isFire xs) (left + count isLeave xs) (entered + count isEnter xs)
+tallies-are [] fired left entered t l e = simp add-zero
+tallies-are (x ∷ xs) fired left entered t l e =
     let g = x .tag in
     let o = one-of g in
-    let a : taken + isFire g + count isFire xs ≡ taken + (isFire g + count isFire xs) = omega arith in
+    let a : fired + isFire g + count isFire xs ≡ fired + (isFire g + count isFire xs) = omega arith in
     let b : left + isLeave g + count isLeave xs ≡ left + (isLeave g + count isLeave xs) = omega arith in
     let c : entered + isEnter g + count isEnter xs ≡ entered + (isEnter g + count isEnter xs) = omega arith in
-    ap (tallies xs) (one-more taken left entered g (omega arith) (omega arith) (omega arith))
-    ∙ tallies-are xs (taken + isFire g) (left + isLeave g) (entered + isEnter g) (omega arith) (omega arith) (omega arith)
+    ap (tallies xs) (one-more fired left entered g (omega arith) (omega arith) (omega arith))
+    ∙ tallies-are xs (fired + isFire g) (left + isLeave g) (entered + isEnter g) (omega arith) (omega arith) (omega arith)
     ∙ rw (a, b, c) refl
 
 small-parts : (xs ys : List Item) → AllSmall (xs ++ ys) → AllSmall xs × AllSmall ys
