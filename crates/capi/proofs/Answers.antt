@@ -2,8 +2,8 @@
 use Prim.Native.Nat.{ℕ}
 use mathlib.Core.Path.{_≡_, ap, _∙_}
 use mathlib.Core.List.{List}
-use Rattle.capi.specs.declared.Said.{Said}
-use Rattle.capi.specs.Said.{reportOf, reported}
+use Rattle.reports.specs.declared.Said.{Said}
+use Rattle.reports.specs.Said.{reportOf, reported}
 use Rattle.capi.specs.Calls.{Answered}
 
 module _ {A : Type 0} {promise : A → Type 0} {said : A → Said} {before : List ℕ} {number : ℕ} {after : List ℕ} where

@@ -11,8 +11,8 @@ use Rattle.flatten.specs.Wrote.{flattenTold}
 use Rattle.answers.specs.declared.Flattening.{Flattening}
 use Rattle.answers.specs.declared.Flattening.the-variants.{Done, Refused}
 use Rattle.answers.specs.Parts.{flattenVerdictOf, tableWordsOf}
-use Rattle.capi.specs.declared.Said.{Said}
-use Rattle.capi.specs.Said.{flattenSaid, reportOf, reported}
+use Rattle.reports.specs.declared.Said.{Said}
+use Rattle.reports.specs.Said.{flattenSaid, reportOf, reported}
 use Rattle.capi.specs.Calls.{Answered}
 
 module _ {A : Type 0} {P Q : A → Type 0} {said : A → Said} {before : List ℕ} {m n : ℕ} {x y : List ℕ} where

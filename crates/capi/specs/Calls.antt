@@ -8,8 +8,8 @@ use Rattle.answers.specs.declared.ChartRun.{ChartRun}
 use Rattle.answers.specs.declared.FlatRun.{FlatRun}
 use Rattle.answers.specs.declared.Flattening.{Flattening}
 use Rattle.olivrescum.specs.Promises.{ChartChecked, ChartStarted, ChartRan, ChartFlattened, FlatTableChecked, FlatTableStarted, FlatTableRan}
-use Rattle.capi.specs.declared.Said.{Said}
-use Rattle.capi.specs.Said.{verdictSaid, chartSaid, flatSaid, flattenSaid, reportOf, reported}
+use Rattle.reports.specs.declared.Said.{Said}
+use Rattle.reports.specs.Said.{verdictSaid, chartSaid, flatSaid, flattenSaid, reportOf, reported}
 
 -- A call whose answers are of the type A: what the library promises of them, what each says in numbers, the report's words
 -- before the call, the number returned, and the report's words after the call.

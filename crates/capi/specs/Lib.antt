@@ -1,5 +1,3 @@
--- Start here. `Said`: what an answer says in numbers, and a report's words after a call; `Calls`: what each call promises;
--- `Theorems`: what is proved of the promises.
-pub mod Said
+-- Start here. `Calls`: what each call promises; `Theorems`: what is proved of the promises.
 pub mod Calls
 pub mod Theorems

@@ -1,7 +1,7 @@
 -- Number and place are those of the verdict, and the rest is 0. Assumes nothing.
 use borrow.Author.Needs.{needs}
-use Rattle.capi.proofs.verdict_said.Statement.{statement}
-use Rattle.capi.proofs.verdict_said.Tie as tie
+use Rattle.reports.proofs.verdict_said.Statement.{statement}
+use Rattle.reports.proofs.verdict_said.Tie as tie
 
 returns : tie.Need-returns
 returns c = rw (c .place-of .ensures, c .before .number-of .ensures)

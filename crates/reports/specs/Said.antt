@@ -9,7 +9,7 @@ use Rattle.answers.specs.declared.ChartRun.{ChartRun}
 use Rattle.answers.specs.declared.FlatRun.{FlatRun}
 use Rattle.answers.specs.declared.Flattening.{Flattening}
 use Rattle.answers.specs.Parts.{verdictOf, countsOf, flatVerdictOf, flatCountsOf, flattenVerdictOf, tableWordsOf}
-use Rattle.capi.specs.declared.Said.{Said}
+use Rattle.reports.specs.declared.Said.{Said}
 
 -- a check or a start
 abbrev pub verdictSaid : Verdict → Said

@@ -3,8 +3,8 @@ use Prim.Native.Nat.{ℕ}
 use mathlib.Core.Path.{_≡_, refl}
 use mathlib.Core.List.{List, [], _∷_}
 use lib.ListN.{set}
-use Rattle.capi.specs.declared.Said.{Said}
-use Rattle.capi.specs.Said.{reportOf, reported}
+use Rattle.reports.specs.declared.Said.{Said}
+use Rattle.reports.specs.Said.{reportOf, reported}
 
 module _ (s : Said) where
   abbrev pub filled : List ℕ → List ℕ

@@ -1,7 +1,7 @@
 -- What the verdict of the run says, with its counts. Assumes nothing.
 use borrow.Author.Needs.{needs}
-use Rattle.capi.proofs.flat_said.Statement.{statement}
-use Rattle.capi.proofs.flat_said.Tie as tie
+use Rattle.reports.proofs.flat_said.Statement.{statement}
+use Rattle.reports.proofs.flat_said.Tie as tie
 
 returns : tie.Need-returns
 returns c = rw (c .verdict-said .ensures, c .before .flat-verdict-of .ensures, c .before .before .flat-counts-of .ensures)

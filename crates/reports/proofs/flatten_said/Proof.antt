@@ -1,7 +1,7 @@
 -- What the verdict of the flattening says, with its words. Assumes nothing.
 use borrow.Author.Needs.{needs}
-use Rattle.capi.proofs.flatten_said.Statement.{statement}
-use Rattle.capi.proofs.flatten_said.Tie as tie
+use Rattle.reports.proofs.flatten_said.Statement.{statement}
+use Rattle.reports.proofs.flatten_said.Tie as tie
 
 returns : tie.Need-returns
 returns c = rw (c .table-words-of .ensures, c .before .verdict-said .ensures, c .before .before .flatten-verdict-of .ensures)

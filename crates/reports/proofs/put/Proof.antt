@@ -2,8 +2,8 @@
 use mathlib.Core.Path.{sym}
 use lib.Seq.{set-out}
 use borrow.Author.Needs.{needs}
-use Rattle.capi.proofs.put.Statement.{statement}
-use Rattle.capi.proofs.put.Tie as tie
+use Rattle.reports.proofs.put.Statement.{statement}
+use Rattle.reports.proofs.put.Tie as tie
 
 returns-2 : tie.Need-returns-2
 returns-2 c = sym (set-out _ _ _ (c .if1 .left))

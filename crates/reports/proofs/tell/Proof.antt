@@ -2,9 +2,9 @@
 use mathlib.Core.Path.{refl}
 use denote.Ref.{now}
 use borrow.Author.Needs.{needs}
-use Rattle.capi.proofs.Reports.{filled-reports}
-use Rattle.capi.proofs.tell.Statement.{statement}
-use Rattle.capi.proofs.tell.Tie as tie
+use Rattle.reports.proofs.Reports.{filled-reports}
+use Rattle.reports.proofs.tell.Statement.{statement}
+use Rattle.reports.proofs.tell.Tie as tie
 
 returns : tie.Need-returns
 returns c =

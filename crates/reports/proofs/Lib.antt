@@ -1,0 +1,2 @@
+-- `Reports`: eight words set are a report written.
+mod Reports
