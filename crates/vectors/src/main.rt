@@ -326,34 +326,41 @@ fn is_within_bound(counts: answers::Counts, flat: answers::FlatCounts) -> bool {
     flat.fired as u64 <= counts.left as u64 + counts.entered as u64 + counts.taken as u64
 }
 
-// Reads the words of a case, and runs its call. Of a call that is not known the words are read, and nothing is printed.
+// The call of a case on its table and state. A call that is not known prints nothing.
+fn run_call(
+    case: Case,
+    table: &[u16],
+    state: &mut [u16],
+    room: &mut [u16],
+    text: &mut Text,
+    at: usize,
+) -> usize {
+    let call = case.call;
+    match call {
+        1 => put_check(text, at, 1, olivrescum::check_chart(table)),
+        2 => start_chart(table, state, text, at),
+        3 => run_chart(case, table, state, text, at),
+        4 => put_check(text, at, 4, olivrescum::check_flat(table)),
+        5 => start_flat(table, state, text, at),
+        6 => run_flat(case, table, state, text, at),
+        7 => flatten(case, table, room, text, at),
+        _ => at,
+    }
+}
+
+// Reads the words of a case, and runs its call.
 fn run_case(case: Case, table: &mut [u16], room: &mut [u16], text: &mut Text, at: usize) -> usize {
     let table_words = shell::read_words(table, 0, case.table_words);
     let mut state = [0u16; 47];
     let state_words = shell::read_words(&mut state, 0, case.state_words);
-    let call = case.call;
-    match call {
-        1 => put_check(text, at, 1, olivrescum::check_chart(&table[..table_words])),
-        2 => start_chart(&table[..table_words], &mut state[..state_words], text, at),
-        3 => run_chart(
-            case,
-            &table[..table_words],
-            &mut state[..state_words],
-            text,
-            at,
-        ),
-        4 => put_check(text, at, 4, olivrescum::check_flat(&table[..table_words])),
-        5 => start_flat(&table[..table_words], &mut state[..state_words], text, at),
-        6 => run_flat(
-            case,
-            &table[..table_words],
-            &mut state[..state_words],
-            text,
-            at,
-        ),
-        7 => flatten(case, &table[..table_words], room, text, at),
-        _ => at,
-    }
+    run_call(
+        case,
+        &table[..table_words],
+        &mut state[..state_words],
+        room,
+        text,
+        at,
+    )
 }
 
 // Reads the words that a case begins with; false where the input has ended.
