@@ -1,4 +1,4 @@
-// The chart engine: the calls that start and run a chart. It takes any table, state, event and room.
+// The chart engine: the calls that start and run a chart. It takes any table, state, event and words for outputs.
 ghost use mathlib.Core.Path.{_≡_};
 ghost use Rattle.table.specs.Answers.{told};
 ghost use Rattle.effects.specs.Lent.{startTold};

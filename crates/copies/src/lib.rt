@@ -1,4 +1,4 @@
-// Lent words are copied and cleared word by word, between slices of known lengths; and the room that is lent for outputs. It
+// Lent words are copied and cleared word by word, between slices of known lengths; and how many outputs they hold. It
 // knows neither charts nor flat tables.
 ghost use mathlib.Core.Path.{_≡_};
 ghost use mathlib.Core.List.{_++_};

@@ -1,4 +1,5 @@
--- What the calls of both engines have in common beside a macrostep: the room for outputs, zeros, and what a start leaves.
+-- What the calls of both engines have in common beside a macrostep: how many pairs the words lent for outputs hold, zeros, and
+-- what a start leaves.
 use Prim.Native.Nat.{ℕ, zero, suc, _/_}
 use mathlib.Core.Bool.{cond}
 use mathlib.Core.List.{List, [], _∷_}

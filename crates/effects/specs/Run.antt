@@ -29,7 +29,7 @@ pub record Env : Type 0 where
   pub outs : List (ℕ × ℕ)
   pub queue : List ℕ
 
--- 22: "an output beyond 256 or beyond the lent pairs". `pairs` is the smaller of the two.
+-- 22: "an output beyond 256 or beyond the lent pairs". `pairs` is the smaller of the two numbers.
 unfoldable pub emitTo : ℕ → ℕ → ℕ → Env → Result Env
 emitTo pairs a v s =
     cond (ltb (length (s .outs)) pairs)
@@ -67,7 +67,8 @@ written k [] o = o
 written k (p ∷ ps) o = written (k + 1) ps (set (set o (2 * k) (p .0)) (2 * k + 1) (p .1))
 
 -- ---- steps
--- What a step is counted as: a state left, a transition (or a flat rule) taken, a state entered.
+-- What a step is counted as: a state left, a transition or a flat rule that fires, a state entered. 01 calls a transition that
+-- fires taken.
 pub data Tag : Type 0 where
   leave : Tag
   fire : Tag

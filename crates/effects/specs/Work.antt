@@ -21,7 +21,7 @@ use Rattle.effects.specs.declared.Stop.the-variants.{Signals, Outputs, M
 use Rattle.effects.specs.declared.Progress.{Progress}
 
 -- ---- what is counted, in two numbers of 64 bits
--- From bit 40 on the transitions taken, or the rules fired; from bit 20 on the states left; below, the states entered.
+-- From bit 40 on the transitions or rules that fired; from bit 20 on the states left; below, the states entered.
 abbrev pub firedOf : Progress → ℕ
 firedOf n = n .counts / 1099511627776
 

@@ -18,7 +18,7 @@ pub enum Stop {
 }
 
 // How far a macrostep is, in two numbers, so that it takes little of the stack; how they are made up is known here alone.
-// specs/Work.antt says which bits count what: `counts` has the transitions taken, the states left and the states entered, `rest` why it
+// specs/Work.antt says which bits count what: `counts` has what fired, the states left and the states entered, `rest` why it
 // has stopped, the microsteps, the signals raised (tail) and taken (head), and the outputs. No count of a macrostep reaches the next.
 pub struct Progress {
     counts: u64,
@@ -51,7 +51,7 @@ fn bits_of(stop: Stop) -> u64
     }
 }
 
-// The transitions taken, or the rules fired.
+// The transitions or the flat rules that fired.
 pub fn fired_of(n: Progress) -> u32
     ensures { λ r. ⌜ r ≡ firedOf n ⌝ }
 {
@@ -283,7 +283,7 @@ pub fn count_leave(n: Progress) -> Progress
     grown(n, ONE_LEFT)
 }
 
-// A transition is taken, or a flat rule fires.
+// A transition or a flat rule fires.
 pub fn count_fire(n: Progress) -> Progress
     ensures { λ r. ⌜ r ≡ counted fire n ⌝ }
 {

@@ -1,4 +1,4 @@
-// The flat engine: the calls that start and run a flat table. It takes any table, state, event and room.
+// The flat engine: the calls that start and run a flat table. It takes any table, state, event and words for outputs.
 ghost use mathlib.Core.Path.{_≡_};
 ghost use mathlib.Core.List.{_++_};
 ghost use Prim.Native.Nat.{_+_, _*_, _≤_};

@@ -15,7 +15,7 @@ use Rattle.effects.specs.Work.{Going, outsOf, stopped?}
 use Rattle.effects.proofs.Same.{Outcome, done, refused}
 use Rattle.macrostep.specs.Ends.{told?, Ends, ended, halted}
 
--- the room for outputs is at most 256 pairs, and the words lent hold it
+-- the pairs for outputs are at most 256, and the words lent hold them
 pub pairs-few : (l : ℕ) → pairsFor l ≤ 256
 pairs-few l = by-bool (ltb 256 (l / 2)) (λ e. rw e (omega arith)) (λ e. rw e (ltb-ge 256 (l / 2) e))
 

@@ -1,4 +1,4 @@
--- `effects::count_fire` meets its contract: one is added where the transitions taken are counted. Assumes nothing.
+-- `effects::count_fire` meets its contract: one is added where what fires is counted. Assumes nothing.
 use borrow.Author.Needs.{needs}
 use Rattle.effects.proofs.count_fire.Statement.{statement}
 use Rattle.effects.proofs.count_fire.Tie as tie
