@@ -1,13 +1,16 @@
 -- A loop through the literals of a guard's span: where it is, what rule 16 says of the literal there, and that what is asked of all
 -- is asked of those left. Assumes nothing.
-use Prim.Native.Nat.{ℕ, _+_, _-_, _<_, _≤_}
+use Prim.Native.Nat.{ℕ, _+_, _*_, _-_, _^_, _<_, _≤_}
 use mathlib.Core.Path.{_≡_, sym, ap, _∙_}
 use mathlib.Core.Bool.{Bool, true, false}
 use mathlib.Core.List.{List}
 use native.Mathlib.Omega.{arith}
+use lib.ListN.{length, getD}
+use mir.Syntax.{w64}
+use mir.Val.{Fits}
 use Rattle.words.specs.Loops.{many, all}
 use Rattle.words.proofs.Many.{all-good, all-bad, all-end}
-use Rattle.flat.specs.View.{Flat, flatView, literalAt}
+use Rattle.flat.specs.View.{Flat, flatView, guardAt, literalAt}
 use Rattle.flat.specs.Readable.{FlatReadable}
 use Rattle.flat.specs.Literals.{flatLiteralIn}
 use Rattle.flat.specs.declared.FlatLiteral.{FlatLiteral}
@@ -30,21 +33,41 @@ pub record Walk (p : FlatLiteral → Bool) (t : List ℕ) (k i place left : ℕ)
   pub begins : place ≡ literalAt t i
   pub rest : all p (flatLiteralsOf (flatView t) k) ≡ all p (many (literal (flatView t)) i left)
 
-module _ {p : FlatLiteral → Bool} {t : List ℕ} {k i place left : ℕ} where
-  pub walk-start : i ≡ flatView t .asks k .first → left ≡ flatView t .asks k .count → i < 65536 → left < 65536
-      → place ≡ literalAt t i → Walk p t k i place left
-  unfolding flatLiteralsOf
-  walk-start e n h l b = record { few = omega arith; from = omega arith; until = omega arith; begins = b; rest = rw (e, n) }
+-- a guard's two words tell its span; r is where they begin, and `base` where literals do
+module _ (t : List ℕ) (k : ℕ) {i r : ℕ} (begins : r ≡ guardAt t k) (first : i ≡ getD t r 0) where
+  pub span-first : i ≡ flatView t .asks k .first
+  span-first = first ∙ ap (λ (n : ℕ). getD t n 0) begins
 
+  pub walk-start : {p : FlatLiteral → Bool} {base left : ℕ} → base ≡ getD t 15 0 → left ≡ getD t (r + 1) 0 → i < 65536 → left < 65536
+      → Walk p t k i (base + 3 * i) left
+  unfolding flatLiteralsOf
+  walk-start b l h m =
+      let count : _ ≡ flatView t .asks k .count = l ∙ ap (λ (n : ℕ). getD t (n + 1) 0) begins in
+      let e = span-first in
+      record { few = omega arith; from = omega arith; until = omega arith; begins = omega arith; rest = rw (e, count) }
+
+module _ {p : FlatLiteral → Bool} {t : List ℕ} {k i place left : ℕ} where
   module _ (w : Walk p t k i place left) where
+    -- what lies in the span is behind, where none is left
+    pub walk-past : left ≤ 0 → (n : ℕ) → n < flatView t .asks k .first + flatView t .asks k .count → n < i
+    walk-past h n l = omega (arith, w .until)
+
     pub walk-end : left ≤ 0 → all p (flatLiteralsOf (flatView t) k) ≡ true
     walk-end h = w .rest ∙ all-end p (literal (flatView t)) i left h
 
     module _ (h : 0 < left) where
+      pub walk-next-fits : Fits w64 (i + 1)
+      walk-next-fits = record { fits = omega (arith, w .few) }
+
       -- literal i can be read, what it names is there, and the guard that it asks for is smaller
       module _ (g : FlatRules t) (m : k < flatView t .guards) where
         pub walk-reads : FlatReadable t × (i < flatView t .literals) × (place ≡ literalAt t i)
         walk-reads = (flat-readable g, omega (arith, g .spans k m), w .begins)
+
+        pub walk-place-fits : length t < 2 ^ 64 → Fits w64 (place + 3)
+        walk-place-fits l =
+            let can = walk-reads in
+            record { fits = omega (arith, can .0 .literals, can .1) }
 
         module _ {x : FlatLiteral} (read : x ≡ literal (flatView t) i) where
           pub walk-names : Names (flatView t) x

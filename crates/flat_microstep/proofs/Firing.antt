@@ -1,20 +1,23 @@
 -- The rules that fire are those of the trigger whose guards are true. Assumes nothing.
+use borrow.Author.Tests.{not-true, not-false}
 use Prim.Native.Nat.{ℕ, _<_, _≤_}
 use mathlib.Core.Path.{_≡_, refl, sym, ap, ap₂, _∙_}
-use mathlib.Core.Bool.{Bool, true, false, _&&_}
+use mathlib.Core.Bool.{Bool, true, false, not, _&&_}
+use mathlib.Core.Logic.{_≢_}
 use mathlib.Core.List.{List, []}
 use native.Mathlib.Omega.{arith}
+use lib.ListN.{set}
 use Rattle.words.specs.Loops.{joinUp, when}
-use Rattle.words.proofs.Tests.{by-bool, eqb-no}
+use Rattle.words.proofs.Tests.{by-bool, eqb-yes, eqb-no}
 use Rattle.words.proofs.Lists.{joinUp-cong}
 use Rattle.words.proofs.Skip.{join-skip}
 use Rattle.table.specs.Span.{spanAt}
-use Rattle.effects.specs.Run.{Step}
+use Rattle.effects.specs.Run.{Step, setAll}
 use Rattle.effects.specs.Work.{spanItems}
 use Rattle.flat.specs.View.{Flat, flatView}
 use Rattle.flat_rules.specs.Rules.{FlatRules}
 use Rattle.flat_meaning.specs.Guards.{inCells, values}
-use Rattle.flat_meaning.specs.Steps.{flatItemsOf, ruleStep, fires?, firing, flatMachine}
+use Rattle.flat_meaning.specs.Steps.{flatItemsOf, targetSet, ruleStep, fires?, firing, flatMachine}
 use Rattle.marks.specs.Bits.{marked}
 use Rattle.flat_microstep.specs.Stretch.{has?, Asked}
 
@@ -22,6 +25,27 @@ use Rattle.flat_microstep.specs.Stretch.{has?, Asked}
 pub span-does : (t : List ℕ) (at : ℕ) → spanItems t 16 at ≡ flatItemsOf (flatView t) (spanAt t at)
 unfolding spanItems flatItemsOf
 span-does t at = refl
+
+module _ (f : Flat) (k : ℕ) where
+  -- guard a, the first of rule k, is asked, and then b, its second
+  module _ (known : ℕ → Bool) (a : ℕ) (first : a ≡ f .first-guard k) where
+    pub not-first : (r : Bool) → r ≡ known a → not r ≡ true → false ≡ (known (f .first-guard k) && known (f .second-guard k))
+    not-first r told fails = rw (← first, ← told, not-true r fails) refl
+
+    pub then-second : (b : ℕ) → b ≡ f .second-guard k → (r q : Bool) → r ≡ known a → not r ≡ false → q ≡ known b
+        → q ≡ (known (f .first-guard k) && known (f .second-guard k))
+    then-second b second r q told holds then = rw (← first, ← second, ← told, not-false r holds) then
+
+  -- rule k has target j: its machine's word is put; or it has none, and no word is
+  module _ (j : ℕ) (target : j ≡ f .target k) where
+    pub aimed : j ≢ 65535 → (m : ℕ) (before after : List ℕ) → m ≡ f .machine j → after ≡ set before m j
+        → after ≡ setAll (targetSet f k) before
+    unfolding targetSet
+    aimed some m before after machine put = rw (← target, eqb-no some, ← machine) put
+
+    pub not-aimed : j ≡ 65535 → (before : List ℕ) → before ≡ setAll (targetSet f k) before
+    unfolding targetSet
+    not-aimed none before = rw (← target, eqb-yes none) refl
 
 module _ (f : Flat) (e : ℕ) (known : ℕ → Bool) where
   -- the step of rule k, where it fires

@@ -1,10 +1,17 @@
 -- `flat::initial_of` meets its contract: what it returns is what its callees say. Assumes nothing.
 use borrow.Author.Needs.{needs}
+use Prim.Native.Nat.{ℕ, _+_}
+use mathlib.Core.Path.{ap, _∙_}
+use denote.Ref.{now}
+use lib.ListN.{getD}
 use Rattle.flat.proofs.initial_of.Statement.{statement}
 use Rattle.flat.proofs.initial_of.Tie as tie
 
 returns : tie.Need-returns
-returns c = (cc, search needs)
+returns c =
+    let s = c .before .before .before .args in
+    let place = ap (λ (n : ℕ). getD (now (s .t)) (n + s .m) 0) (c .before .head .ensures .0) in
+    (c .number-in .ensures .0 ∙ place, c .number-in .ensures .1)
 
 pub initial-of-spec : {M : Type 1} → statement M
 initial-of-spec = tie.close (tie.spec

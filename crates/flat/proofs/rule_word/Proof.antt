@@ -1,10 +1,17 @@
 -- `flat::rule_word` meets its contract: what it returns is what its callees say. Assumes nothing.
 use borrow.Author.Needs.{needs}
+use Prim.Native.Nat.{ℕ, _+_}
+use mathlib.Core.Path.{ap, _∙_}
+use denote.Ref.{now}
+use lib.ListN.{getD}
 use Rattle.flat.proofs.rule_word.Statement.{statement}
 use Rattle.flat.proofs.rule_word.Tie as tie
 
 returns : tie.Need-returns
-returns c = (cc, search needs)
+returns c =
+    let s = c .before .before .before .args in
+    let place = ap (λ (n : ℕ). getD (now (s .t)) (n + s .r) 0) (c .before .rule-at .ensures .0) in
+    (c .number-in .ensures .0 ∙ place, c .number-in .ensures .1)
 
 pub rule-word-spec : {M : Type 1} → statement M
 rule-word-spec = tie.close (tie.spec

@@ -1,5 +1,4 @@
 -- `flat_engine::run` meets its contract: it goes by the check's answer. Assumes nothing.
-use borrow.Author.Needs.{needs}
 use mathlib.Core.Path.{sym, _∙_}
 use denote.Ref.{now}
 use Rattle.flat_engine.proofs.Answers.{accepted, run-accepted, run-refused}
@@ -34,5 +33,5 @@ pub run-spec : {M : Type 1} → statement M
 run-spec =
     tie.close
     (tie.spec
-    (λ c κs. search needs) (λ c. search needs) (λ c. search needs) run-accepted-requires returns
-    (λ c. search needs) (λ c. search needs) returns-2)
+    (λ c κs. tt) (λ c. c .match .keys1) (λ c. c .match .keys2) run-accepted-requires returns (λ c. c .before .before .before .state .given)
+    (λ c. c .before .outputs .given) returns-2)

@@ -1,17 +1,18 @@
 -- `flat_engine::run_accepted` meets its contract: state and event are tested in the order of the refusals, and there is a bit
 -- for each guard. Assumes nothing.
-use borrow.Author.Needs.{needs}
 use borrow.Author.Tests.{not-true, not-false}
 use Prim.Native.Nat.{_+_, _/_}
-use mathlib.Core.Path.{sym, _∙_}
-use native.Mathlib.Omega.{arith}
+use native.Mathlib.Nat.{le-of-eq, le-trans, lt-of-le-of-lt, lt-of-lt-of-le}
+use mathlib.Core.Path.{refl, sym, _∙_}
+use lib.Dec.{lit<}
 use denote.Ref.{now}
 use lib.Seq.{length-take-le}
 use Rattle.effects.specs.Lent.{zeros}
 use Rattle.flat.specs.View.{flatView}
-use Rattle.flat_rules.proofs.Readable.{flat-needs}
+use Rattle.flat_rules.proofs.Readable.{flat-readable}
 use Rattle.flat_meaning.proofs.State.{state-length}
 use Rattle.flat_engine.proofs.Answers.{no-state, no-event, good-call}
+use Rattle.flat_engine.proofs.Lengths.{bits-fit, bits-in, bits-enough}
 use Rattle.flat_engine.proofs.run_accepted.Statement.{statement}
 use Rattle.flat_engine.proofs.run_accepted.Tie as tie
 
@@ -28,12 +29,12 @@ returns-2 c =
     let good = c .before .before .before .before .is-state in
     no-event (flatView (now (s .t))) (now (s .state)) (s .event) (now (s .outputs))
     (sym (good .ensures) ∙ not-false (good .result) (c .before .before .before .if1 .left))
-    (omega (arith, c .if2 .taken, c .before .before .head .ensures .0, c .before .wide .ensures .0))
+    (le-trans (le-of-eq (sym (c .before .before .head .ensures .0))) (le-trans (c .if2 .taken) (le-of-eq (c .before .wide .ensures .0))))
 
 slice-aggregate-run-state : tie.Need-slice-aggregate-run-state
 slice-aggregate-run-state c =
     let g = c .before .head2 in
-    sym (length-take-le (g .result / 16 + 1) (zeros 147) (omega (arith, g .ensures .0, c .before .before .before .before .before .before .before .before .before .before .before .pre .counts .guards .1)))
+    sym (length-take-le (g .result / 16 + 1) (zeros 147) (bits-in _ _ (g .ensures .0) (c .before .before .before .before .before .before .before .before .before .before .before .pre .counts .guards .1)))
 
 run-state-requires : tie.Need-run-state-requires
 run-state-requires c κs =
@@ -41,9 +42,9 @@ run-state-requires c κs =
     let pre = c .before .before .before .before .before .before .before .before .before .before .before .before .before .pre in
     let good = c .before .before .before .before .before .before .before .before .is-state in
     let g = c .before .before .before .head2 in
-    let marks = length-take-le (g .result / 16 + 1) (zeros 147) (omega (arith, g .ensures .0, pre .counts .guards .1)) in (
+    let marks = length-take-le (g .result / 16 + 1) (zeros 147) (bits-in _ _ (g .ensures .0) (pre .counts .guards .1)) in (
       pre,
-      omega (arith, marks, g .ensures .0),
+      bits-enough _ _ _ (g .ensures .0) marks,
       state-length (flatView (now (s .t))) (now (s .state)) (sym (good .ensures) ∙ not-false (good .result) (c .before .before .before .before .before .before .before .if1 .left)),
     )
 
@@ -54,12 +55,13 @@ returns-3 c =
     c .before .before .before .before .before .run-state .ensures
     ∙ sym (good-call (flatView (now (s .t))) (now (s .state)) (s .event) (now (s .outputs))
     (sym (good .ensures) ∙ not-false (good .result) (c .before .before .before .before .before .before .before .before .before .before .before .before .before .if1 .left))
-    (omega (arith, c .before .before .before .before .before .before .before .before .before .before .if2 .left, c .before .before .before .before .before .before .before .before .before .before .before .wide .ensures .0, c .before .before .before .before .before .before .before .before .before .before .before .before .head .ensures .0)))
+    (lt-of-le-of-lt (le-of-eq (sym (c .before .before .before .before .before .before .before .before .before .before .before .wide .ensures .0))) (lt-of-lt-of-le (c .before .before .before .before .before .before .before .before .before .before .if2 .left) (le-of-eq (c .before .before .before .before .before .before .before .before .before .before .before .before .head .ensures .0)))))
 
 pub run-accepted-spec : {M : Type 1} → statement M
 run-accepted-spec =
     tie.close
     (tie.spec
-    (λ c κs. search needs) (λ c. search needs) returns (λ c κs. search flat-needs) (λ c κs. search needs) (λ c. search needs)
-    returns-2 (λ c κs. search flat-needs) (λ c. search needs) (λ c. search needs) slice-aggregate-run-state
-    run-state-requires (λ c. search needs) (λ c. search needs) returns-3)
+    (λ c κs. c .before .before .before .before .pre) (λ c. refl) returns (λ c κs. (flat-readable (c .before .before .before .before .before .before .pre), lit< tt)) (λ c κs. tt) (λ c. refl) returns-2
+    (λ c κs. (flat-readable (c .before .before .before .before .before .before .before .before .before .pre), lit< tt)) (λ c. bits-fit _ (c .head2 .ensures .1))
+    (λ c. bits-in _ _ (c .head2 .ensures .0) (c .before .before .before .before .before .before .before .before .before .before .pre .counts .guards .1)) slice-aggregate-run-state run-state-requires
+    (λ c. c .before .before .before .state .given) (λ c. c .before .outputs .given) returns-3)

@@ -1,27 +1,32 @@
 -- `flat_engine::run_state` meets its contract: a macrostep that stops is refused, and one that ends is told with its counts.
 -- Assumes nothing.
-use borrow.Author.Needs.{needs}
-use mathlib.Core.Path.{sym, _∙_}
-use native.Mathlib.Omega.{arith}
+use Prim.Native.Nat.{ℕ, _+_}
+use native.Mathlib.Nat.{le-of-eq, le-trans}
+use mathlib.Core.Path.{sym, ap, _∙_}
+use lib.Dec.{lit<}
 use denote.Ref.{now}
-use Rattle.flat_rules.proofs.Readable.{flat-needs}
+use Rattle.flat.specs.View.{flatView}
+use Rattle.flat_rules.proofs.Readable.{flat-readable}
 use Rattle.flat_meaning.specs.State.{flatLength}
 use Rattle.flat_engine.proofs.Finished.{run-stopped, run-done}
+use Rattle.flat_engine.proofs.Lengths.{words-in, vars-few}
 use Rattle.flat_engine.proofs.run_state.Statement.{statement}
 use Rattle.flat_engine.proofs.run_state.Tie as tie
 
 run-requires : tie.Need-run-requires
 unfolding flatLength
 run-requires c κs =
-    let pre = c .before .before .before .before .before .before .before .before .pre in
+    let start = c .before .before .before .before .before .before .before .before in
+    let pre = start .pre in
     let counts = pre .0 .counts in
-    let is = c .before .before .before .head .ensures .0 in (
+    let is = c .before .before .before .head .ensures .0 in
+    let long = pre .2 ∙ ap (λ (n : ℕ). n + flatView (now (start .args .t)) .variables) (sym is) in (
       pre .0,
       pre .1,
       is,
-      omega (arith, is, counts .machines .1),
-      omega (arith, is, pre .2),
-      omega (arith, is, pre .2, counts .variables .1),
+      le-trans (le-of-eq is) (counts .machines .1),
+      words-in _ _ _ long,
+      vars-few _ _ _ long (counts .variables .1),
     )
 
 returns : tie.Need-returns
@@ -42,6 +47,6 @@ pub run-state-spec : {M : Type 1} → statement M
 run-state-spec =
     tie.close
     (tie.spec
-    (λ c κs. search flat-needs) run-requires (λ c κs. search needs) (λ c κs. search needs)
-    (λ c. search needs) (λ c. search needs) (λ c. search needs) returns (λ c κs. search needs) (λ c. search needs)
-    (λ c. search needs) (λ c. search needs) returns-2)
+    (λ c κs. (flat-readable (c .before .before .before .before .pre .0), lit< tt)) run-requires (λ c κs. tt) (λ c κs. tt) (λ c. c .before .before .before .before .before .before .before .before .marks .given)
+    (λ c. c .before .before .before .before .before .before .state .given) (λ c. c .before .before .before .before .outputs .given) returns (λ c κs. tt) (λ c. c .before .before .before .before .before .before .before .before .marks .given) (λ c. c .before .before .before .before .before .before .state .given)
+    (λ c. c .before .before .before .before .outputs .given) returns-2)

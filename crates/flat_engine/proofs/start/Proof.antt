@@ -1,5 +1,4 @@
 -- `flat_engine::start` meets its contract: it goes by the check's answer. Assumes nothing.
-use borrow.Author.Needs.{needs}
 use mathlib.Core.Path.{sym, _∙_}
 use denote.Ref.{now}
 use Rattle.flat_engine.proofs.Answers.{accepted, start-accepted, start-refused}
@@ -33,5 +32,4 @@ pub start-spec : {M : Type 1} → statement M
 start-spec =
     tie.close
     (tie.spec
-    (λ c κs. search needs) (λ c. search needs) (λ c. search needs) start-accepted-requires returns (λ c. search needs)
-    returns-2)
+    (λ c κs. tt) (λ c. c .match .keys1) (λ c. c .match .keys2) start-accepted-requires returns (λ c. c .before .state .given) returns-2)

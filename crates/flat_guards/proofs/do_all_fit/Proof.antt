@@ -1,15 +1,30 @@
 -- `flat_guards::do_all_fit` meets its contract: what is asked of all literals is asked of those left, and the literals before them have
 -- asked for their guards, which are smaller. Assumes nothing.
-use borrow.Author.Needs.{needs}
 use borrow.Author.Tests.{not-true, not-false}
-use mathlib.Core.Path.{_≡_, refl, sym}
+use native.Mathlib.Nat.{le-of-lt, lt-trans, lt-of-lt-of-le}
+use mathlib.Core.Path.{_≡_, refl, sym, _∙_}
 use mathlib.Core.Bool.{true≢false}
-use native.Mathlib.Omega.{arith}
+use lib.Dec.{lit<}
+use denote.Ref.{now}
 use lib.ListN.{length}
 use Rattle.flat.specs.View.{flatView}
-use Rattle.flat_rules.proofs.Readable.{flat-needs}
+use Rattle.flat_rules.proofs.Readable.{flat-readable}
 use Rattle.flat_guards.specs.Parts.{fits, allFit}
-use Rattle.flat_guards.proofs.Spans.{Walk, walk-start, walk-end, walk-reads, walk-names, walk-smaller, walk-bad, walk-good}
+use Rattle.flat_guards.proofs.Room.{room, room-kept, first-in, thrice-fits, place-fits, one-less}
+use Rattle.flat_guards.proofs.Spans.{
+  Walk,
+  span-first,
+  walk-start,
+  walk-end,
+  walk-past,
+  walk-next-fits,
+  walk-reads,
+  walk-place-fits,
+  walk-names,
+  walk-smaller,
+  walk-bad,
+  walk-good,
+}
 use Rattle.flat_guards.proofs.Asked.{Asked, asked-none, asked-next}
 use Rattle.flat_guards.proofs.do_all_fit.Statement.{statement}
 use Rattle.flat_guards.proofs.do_all_fit.Tie as tie
@@ -23,7 +38,14 @@ abbrev μ-loop : tie.MeasureT-loop
 
 loop-holds : tie.Need-loop-holds Inv-loop μ-loop
 loop-holds c =
-    (walk-start (cc) (cc) (omega arith) (omega arith) (omega (arith, c .before .head .ensures)), refl, asked-none (cc))
+    let s = c .before .before .before .before .before .before .before .before .args in
+    let begins = c .before .before .before .guard-at .ensures .0 in
+    let first = c .before .before .number-in .ensures in
+    let left = c .number-in2 .ensures in (
+      walk-start (now (s .t)) (s .k) begins (first .0) (c .before .head .ensures .0) (left .0) (first .1) (left .1),
+      refl,
+      asked-none (span-first (now (s .t)) (s .k) begins (first .0)),
+    )
 
 literal-at-requires : tie.Need-literal-at-requires Inv-loop μ-loop
 literal-at-requires c κs =
@@ -53,7 +75,12 @@ ask-requires c κs =
     let p = b .before .before .before .before .before .before .before .before .before .before .before .pre in
     let v = b .before .before .loop .inv in
     let smaller = walk-smaller (v .0) (b .before .loop-test .taken) (p .0) (p .1) (b .literal-at .ensures) in
-    λ a e. omega (arith, smaller a e, p .1, p .2, v .1)
+    λ a e. room a _ _ _ _ (smaller a e) (p .1) (p .2) (v .1)
+
+add-place-2 : tie.Need-add-place-2 Inv-loop μ-loop
+add-place-2 c =
+    let p = c .before .before .before .before .before .before .before .before .before .before .before .before .before .before .before .before .before in
+    walk-place-fits (c .before .before .before .before .before .before .before .before .loop .inv .0) (c .before .before .before .before .before .before .before .loop-test .taken) (p .pre .0) (p .pre .1) (p .good .0 .0)
 
 loop-again : tie.Need-loop-again Inv-loop μ-loop
 loop-again c =
@@ -65,8 +92,8 @@ loop-again c =
     let d = c .before .before .before .before .before .does-fit in
     let smaller = walk-smaller (v .0) on (p .0) (p .1) read in (
       walk-good (v .0) on read (d .ensures) (not-false (d .result) (c .before .before .before .before .if1 .left)),
-      search needs,
-      asked-next (v .2) read (c .before .before .ask .ensures) smaller (omega (arith, p .1, p .2, v .1)),
+      c .before .marks .given ∙ v .1,
+      asked-next (v .2) read (c .before .before .ask .ensures) smaller (le-of-lt (lt-of-lt-of-le (p .1) (room-kept _ _ _ (p .2) (v .1)))),
     )
 
 returns-2 : tie.Need-returns-2 Inv-loop μ-loop
@@ -75,7 +102,7 @@ returns-2 c =
     let v = c .before .loop .inv in (
       sym (walk-end (v .0) (c .loop-test .left)),
       (
-        λ e a n. v .2 .asked (n .literal) (n .from) (omega (arith, n .within, v .0 .until, c .loop-test .left)) a (n .asks),
+        λ e a n. v .2 .asked (n .literal) (n .from) (walk-past (v .0) (c .loop-test .left) _ (n .within)) a (n .asks),
         (v .2 .more, v .2 .above),
       ),
     )
@@ -84,7 +111,10 @@ pub do-all-fit-spec : {M : Type 1} → statement M
 do-all-fit-spec =
     tie.close
     (tie.spec
-    Inv-loop μ-loop (λ c κs. search flat-needs) (λ c κs. search needs) (λ c κs. search flat-needs) (λ c. search needs)
-    (λ c. search needs) (λ c. search needs) (λ c κs. search needs) loop-holds literal-at-requires does-fit-requires
-    (λ c. search needs) returns ask-requires (λ c. search needs) (λ c. search needs) (λ c. search needs) (λ c. search needs)
-    loop-again (λ c. search needs) returns-2)
+    Inv-loop μ-loop (λ c κs. (flat-readable (c .before .before .before .before .pre .0), c .before .before .before .before .pre .1)) (λ c κs. first-in _ _ (c .guard-at .ensures .1))
+    (λ c κs. (flat-readable (c .before .before .before .before .before .before .pre .0), lit< tt)) (λ c. thrice-fits _ (c .before .number-in .ensures .1))
+    (λ c. place-fits _ _ (c .head .ensures .1) (c .before .number-in .ensures .1))
+    (λ c. record { fits = lt-trans (c .before .before .guard-at .ensures .1) (c .before .before .before .before .before .before .before .good .0 .0) }) (λ c κs. c .before .before .guard-at .ensures .1)
+    loop-holds literal-at-requires does-fit-requires (λ c. c .before .before .before .before .loop .inv .1) returns ask-requires
+    (λ c. walk-next-fits (c .before .before .before .before .before .before .before .before .loop .inv .0) (c .before .before .before .before .before .before .before .loop-test .taken)) add-place-2 (λ c. c .before .before .before .before .before .before .before .loop-test .taken)
+    (λ c. one-less _ (c .before .before .before .before .before .before .before .loop-test .taken)) loop-again (λ c. c .before .loop .inv .1) returns-2)

@@ -1,7 +1,8 @@
 -- `flat_guards::evaluate` meets its contract: what is sifted, and then settled, is true. Assumes nothing.
-use borrow.Author.Needs.{needs}
+use mathlib.Core.Path.{_∙_}
 use denote.Ref.{now}
 use Rattle.flat.specs.View.{flatView}
+use Rattle.flat_guards.proofs.Room.{room-kept}
 use Rattle.flat_guards.proofs.Settling.{settled-value}
 use Rattle.flat_guards.proofs.evaluate.Statement.{statement}
 use Rattle.flat_guards.proofs.evaluate.Tie as tie
@@ -17,4 +18,8 @@ returns c =
     (sifted .0 k h asked)
 
 pub evaluate-spec : {M : Type 1} → statement M
-evaluate-spec = tie.close (tie.spec (λ c κs. search needs) (λ c κs. search needs) (λ c. search needs) returns)
+evaluate-spec =
+    tie.close
+    (tie.spec
+    (λ c κs. c .before .before .before .before .before .pre) (λ c κs. (c .before .before .before .before .before .before .before .before .before .pre .0, room-kept _ _ _ (c .before .before .before .before .before .before .before .before .before .pre .1) (c .before .before .marks .given)))
+    (λ c. c .before .marks2 .given ∙ c .before .before .before .before .before .marks .given) returns)

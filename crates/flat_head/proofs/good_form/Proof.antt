@@ -1,6 +1,5 @@
 -- `flat_head::good_form` meets its contract: what it returns is what its callees say. Assumes nothing.
 use Rattle.flat_head.specs.Tests.{goodFlatForm?}
-use borrow.Author.Needs.{needs}
 use Rattle.flat_head.proofs.good_form.Statement.{statement}
 use Rattle.flat_head.proofs.good_form.Tie as tie
 
@@ -17,4 +16,4 @@ returns c =
 pub good-form-spec : {M : Type 1} → statement M
 good-form-spec =
     tie.close (tie.spec
-    (λ c κs. search needs) (λ c κs. search needs) (λ c κs. search needs) (λ c κs. search needs) returns)
+    (λ c κs. tt) (λ c κs. tt) (λ c κs. tt) (λ c κs. tt) returns)

@@ -1,14 +1,13 @@
 -- `flat_head::good_layout` meets its contract: what it returns is what its callees say. Assumes nothing.
+use mathlib.Core.Path.{ap₂, _∙_}
+use mathlib.Core.Bool.{_&&_}
 use Rattle.flat_head.specs.Tests.{goodFlatLayout?}
-use borrow.Author.Needs.{needs}
 use Rattle.flat_head.proofs.good_layout.Statement.{statement}
 use Rattle.flat_head.proofs.good_layout.Tie as tie
 
 returns : tie.Need-returns
 unfolding goodFlatLayout?
-returns c = cc
+returns c = c .both .ensures ∙ ap₂ _&&_ (c .before .before .front-layout .ensures) (c .before .back-layout .ensures)
 
 pub good-layout-spec : {M : Type 1} → statement M
-good-layout-spec =
-    tie.close (tie.spec
-    (λ c κs. search needs) (λ c κs. search needs) (λ c κs. search needs) returns)
+good-layout-spec = tie.close (tie.spec (λ c κs. c .before .pre) (λ c κs. c .before .before .pre) (λ c κs. tt) returns)

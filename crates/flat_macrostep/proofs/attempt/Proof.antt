@@ -1,6 +1,5 @@
 -- `flat_macrostep::attempt` meets its contract: the macrostep begins with the state's words and variables. Assumes nothing.
-use borrow.Author.Needs.{needs}
-use Prim.Native.Nat.{ℕ}
+use Prim.Native.Nat.{ℕ, zero-le}
 use mathlib.Core.Path.{_≡_, refl, ap, _∙_}
 use mathlib.Core.List.{List}
 use denote.Ref.{now}
@@ -11,6 +10,7 @@ use Rattle.effects.specs.Work.{Going, going, turns, fresh}
 use Rattle.flat.specs.View.{flatView}
 use Rattle.flat_meaning.specs.Steps.{flatMachine}
 use Rattle.macrostep.proofs.Turns.{filled-behind}
+use Rattle.flat_macrostep.proofs.Lengths.{words-from-0, vars-behind, few-words}
 use Rattle.flat_macrostep.proofs.attempt.Statement.{statement}
 use Rattle.flat_macrostep.proofs.attempt.Tie as tie
 
@@ -40,5 +40,7 @@ pub attempt-spec : {M : Type 1} → statement M
 attempt-spec =
     tie.close
     (tie.spec
-    (λ c κs. search needs) (λ c κs. search needs) (λ c κs. search needs) go-requires (λ c. search needs) (λ c. search needs)
-    (λ c. search needs) (λ c. search needs) (λ c. search needs) returns)
+    (λ c κs. (zero-le, words-from-0 _ _ _ (c .before .before .before .before .before .before .before .before .pre .1 .state-long)))
+    (λ c κs. (few-words _ _ (c .before .before .before .before .before .before .before .before .before .before .before .before .pre .1 .few) (c .before .before .next .given), vars-behind _ _ _ (c .before .before .before .before .before .before .before .before .before .before .before .before .pre .1 .state-long) _ (c .before .before .next .given)))
+    (λ c κs. tt) go-requires (λ c. c .before .before .before .before .before .before .before .before .before .marks .given) (λ c. c .before .before .before .before .before .before .before .next2 .given ∙ c .before .before .before .before .before .before .before .before .before .before .before .before .before .before .before .before .before .before .before .before .before .before .next .given)
+    (λ c. c .before .before .before .before .before .vars2 .given ∙ c .before .before .before .before .before .before .before .before .before .before .before .before .before .before .before .before .before .before .vars .given) (λ c. c .before .before .before .outs .given) (λ c. c .before .queue .given) returns)

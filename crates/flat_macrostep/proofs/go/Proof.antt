@@ -1,8 +1,9 @@
 -- `flat_macrostep::go` meets its contract: what is left to do is to go on from the words, variables, outputs and queue so far.
 -- Assumes nothing.
-use borrow.Author.Needs.{needs}
+use native.Mathlib.Nat.{lt-of-lt-of-le}
 use mathlib.Core.Path.{_≡_, refl, sym, ap, _∙_}
 use native.Mathlib.Omega.{arith}
+use lib.Dec.{lit<}
 use denote.Ref.{now}
 use lib.ListN.{length}
 use Rattle.effects.specs.declared.Progress.{Progress}
@@ -10,6 +11,7 @@ use Rattle.effects.specs.Work.{going, turns}
 use Rattle.flat.specs.View.{flatView}
 use Rattle.flat_meaning.specs.Steps.{flatMachine}
 use Rattle.macrostep.proofs.Turns.{ends, goes-on, runs-out}
+use Rattle.flat_macrostep.proofs.Lengths.{room, one-less}
 use Rattle.flat_macrostep.proofs.go.Statement.{statement}
 use Rattle.flat_macrostep.proofs.go.Tie as tie
 
@@ -24,7 +26,7 @@ abbrev μ-loop : tie.MeasureT-loop
 μ-loop t marks₀ pairs next₀ vars₀ outs₀ queue₀ events m₀ e₀ left₀ marks next vars outs queue m e left = left
 
 word-in-requires : tie.Need-word-in-requires Inv-loop μ-loop
-word-in-requires c κs = omega (arith, c .before .before .before .before .before .before .pre .0 .form .header)
+word-in-requires c κs = lt-of-lt-of-le (lit< tt) (c .before .before .before .before .before .before .pre .0 .form .header)
 
 loop-holds : tie.Need-loop-holds Inv-loop μ-loop
 loop-holds c = (refl, refl, refl, refl, refl, refl)
@@ -33,7 +35,7 @@ run-requires : tie.Need-run-requires Inv-loop μ-loop
 run-requires c κs =
     let pre = c .before .before .before .before .before .before .before .before .before .before .before .before .before .before .pre in
     let i = c .before .before .before .before .before .before .loop .inv in
-    (pre .0, omega (arith, pre .1, i .0), i .1 ∙ pre .2)
+    (pre .0, room _ _ _ (pre .1) (i .0), i .1 ∙ pre .2)
 
 returns : tie.Need-returns Inv-loop μ-loop
 returns c =
@@ -58,12 +60,6 @@ loop-again c =
           (c .before .before .before .before .before .before .before .before .before .before .before .before .before .before .before .before .before .before .before .before .before .before .before .before .word-in .ensures) (c .before .oldest .ensures) _ (c .pop .ensures),
     )
 
-sub-left : tie.Need-sub-left Inv-loop μ-loop
-sub-left c = omega (arith, c .before .before .before .before .before .before .before .before .before .before .before .before .before .before .before .before .before .before .before .before .before .before .loop-test .taken)
-
-loop-less : tie.Need-loop-less Inv-loop μ-loop
-loop-less c = omega (arith, c .before .before .before .before .before .before .before .before .before .before .before .before .before .before .before .before .before .before .before .before .before .before .loop-test .taken)
-
 returns-2 : tie.Need-returns-2 Inv-loop μ-loop
 returns-2 c =
     let s = c .before .before .before .before .before .before .before .before .before .before .args in
@@ -77,7 +73,9 @@ pub go-spec : {M : Type 1} → statement M
 go-spec =
     tie.close
     (tie.spec
-    Inv-loop μ-loop word-in-requires loop-holds run-requires (λ c κs. search needs) (λ c κs. search needs)
-    (λ c. search needs) (λ c. search needs) (λ c. search needs) (λ c. search needs) (λ c. search needs)
-    returns (λ c κs. search needs) (λ c κs. search needs) sub-left loop-less loop-again (λ c κs. search needs)
-    (λ c. search needs) (λ c. search needs) (λ c. search needs) (λ c. search needs) (λ c. search needs) returns-2)
+    Inv-loop μ-loop word-in-requires loop-holds run-requires (λ c κs. tt) (λ c κs. tt)
+    (λ c. c .before .before .before .before .before .before .before .before .before .before .before .before .marks .given ∙ c .before .before .before .before .before .before .before .before .before .before .before .before .before .before .before .before .before .before .before .before .loop .inv .0) (λ c. c .before .before .before .before .before .before .before .before .before .before .next .given ∙ c .before .before .before .before .before .before .before .before .before .before .before .before .before .before .before .before .before .before .before .before .loop .inv .1)
+    (λ c. c .before .before .before .before .before .before .before .before .vars .given ∙ c .before .before .before .before .before .before .before .before .before .before .before .before .before .before .before .before .before .before .before .before .loop .inv .2) (λ c. c .before .before .before .before .before .before .outs .given ∙ c .before .before .before .before .before .before .before .before .before .before .before .before .before .before .before .before .before .before .before .before .loop .inv .3)
+    (λ c. c .before .before .before .before .queue .given ∙ c .before .before .before .before .before .before .before .before .before .before .before .before .before .before .before .before .before .before .before .before .loop .inv .4) returns (λ c κs. tt) (λ c κs. tt) (λ c. c .before .before .before .before .before .before .before .before .before .before .before .before .before .before .before .before .before .before .before .before .before .before .loop-test .taken)
+    (λ c. one-less _ (c .before .before .before .before .before .before .before .before .before .before .before .before .before .before .before .before .before .before .before .before .before .before .loop-test .taken)) loop-again (λ c κs. tt) (λ c. c .before .before .loop .inv .0) (λ c. c .before .before .loop .inv .1)
+    (λ c. c .before .before .loop .inv .2) (λ c. c .before .before .loop .inv .3) (λ c. c .before .before .loop .inv .4) returns-2)

@@ -1,11 +1,10 @@
 -- `flat_macrostep::pass` meets its contract: before each time the outputs are as they were, and it is the first time, or what is
 -- meant ends well and all words are lent. Assumes nothing.
-use borrow.Author.Needs.{needs}
-use Prim.Native.Nat.{ℕ, _-_}
-use mathlib.Core.Path.{_≡_, refl, sym, ap, _∙_}
+use Prim.Native.Nat.{ℕ, _+_, _-_, _≤_, zero-le}
+use native.Mathlib.Nat.{le-of-eq, le-trans}
+use mathlib.Core.Path.{_≡_, refl, sym, ap, ap₂, _∙_}
 use mathlib.Core.Bool.{true}
 use mathlib.Core.List.{List, _++_}
-use native.Mathlib.Omega.{arith}
 use denote.Ref.{now}
 use lib.ListN.{length, take, drop}
 use lib.Seq.{length-take-le}
@@ -20,6 +19,7 @@ use Rattle.flat_meaning.proofs.Small.{flat-machine-small, flat-machine-tame}
 use Rattle.macrostep.specs.Ends.{told?, handed, Ends}
 use Rattle.macrostep.proofs.Passes.{kept-enough, Before, untried, tried, before-fits}
 use Rattle.macrostep.proofs.Passed.{told-pass, stop-pass, again-pass}
+use Rattle.flat_macrostep.proofs.Lengths.{room, from-0, all-lent}
 use Rattle.flat_macrostep.proofs.pass.Statement.{statement}
 use Rattle.flat_macrostep.proofs.pass.Tie as tie
 
@@ -50,15 +50,9 @@ abbrev μ-loop : tie.MeasureT-loop
 loop-holds : tie.Need-loop-holds Inv-loop μ-loop
 loop-holds c = (refl, refl, refl, refl, refl, untried refl)
 
-slice-relend-prefix-attempt : tie.Need-slice-relend-prefix-attempt Inv-loop μ-loop
-slice-relend-prefix-attempt c =
-    let l = c .before .before .before .loop in
-    omega (arith, before-fits (c .before .before .before .before .before .before .before .before .before .before .before .before .before .before .before .before .before .before .pre .2) (l .inv .5), ap length (l .inv .4))
-
-slice-aggregate-attempt : tie.Need-slice-aggregate-attempt Inv-loop μ-loop
-slice-aggregate-attempt c =
-    let l = c .before .before .before .before .loop in
-    sym (length-take-le (l .lent) (l .outputs) (omega (arith, before-fits (c .before .before .before .before .before .before .before .before .before .before .before .before .before .before .before .before .before .before .before .pre .2) (l .inv .5), ap length (l .inv .4))))
+-- the outputs are as they were, and what is lent of them is there
+lent-in : (c : tie.At-loop Inv-loop μ-loop) → c .loop .lent ≤ length (c .loop .outputs)
+lent-in c = le-trans (before-fits (c .before .before .before .before .before .before .before .before .before .before .before .before .before .before .before .pre .2) (c .loop .inv .5)) (le-of-eq (sym (ap length (c .loop .inv .4))))
 
 attempt-requires : tie.Need-attempt-requires Inv-loop μ-loop
 attempt-requires c κs =
@@ -67,10 +61,10 @@ attempt-requires c κs =
     let i = c .before .before .before .before .before .loop .inv in (
       pre .0,
       record {
-        bits = omega (arith, sized .bits, i .0);
+        bits = room _ _ _ (sized .bits) (i .0);
         next-long = i .1 ∙ sized .next-long;
-        few = omega (arith, sized .few, i .1);
-        state-long = omega (arith, sized .state-long, i .1, i .2);
+        few = le-trans (le-of-eq (i .1)) (sized .few);
+        state-long = sized .state-long ∙ sym (ap₂ _+_ (i .1) (i .2));
         queue-long = i .3 ∙ sized .queue-long;
       },
     )
@@ -93,15 +87,19 @@ returns c =
     (l .outputs) _ (l .queue) (pairs .ensures .0) (l .inv .1) (l .inv .4) refl (l .inv .3 ∙ pre .1 .queue-long) (l .inv .5)
     (ran .result) _ _ _ _ (ran .ensures) told)
 
+-- so is what is kept of them
 slice-relend-prefix-load : tie.Need-slice-relend-prefix-load Inv-loop μ-loop
-slice-relend-prefix-load c = omega (arith, c .before .before .before .before .before .before .before .before .before .before .before .before .before .before .before .before .before .before .before .before .before .before .before .before .before .before .before .before .before .before .before .before .before .pre .2, c .before .before .before .before .before .outputs .given .1, ap length (c .before .before .before .before .before .before .before .before .before .before .before .before .before .before .before .before .before .before .loop .inv .4))
+slice-relend-prefix-load c =
+    le-trans (c .before .before .before .before .before .before .before .before .before .before .before .before .before .before .before .before .before .before .before .before .before .before .before .before .before .before .before .before .before .before .before .before .before .pre .2) (le-of-eq (sym (c .before .before .before .before .before .outputs .given .1 ∙ ap length (c .before .before .before .before .before .before .before .before .before .before .before .before .before .before .before .before .before .before .loop .inv .4))))
 
 slice-aggregate-load : tie.Need-slice-aggregate-load Inv-loop μ-loop
 slice-aggregate-load c =
-    sym (length-take-le (length (now (c .before .before .before .before .before .before .before .before .before .before .before .before .before .before .before .before .before .before .before .before .before .before .before .before .before .before .before .before .before .before .before .before .before .before .args .kept))) _ (omega (arith, c .before .before .before .before .before .before .before .before .before .before .before .before .before .before .before .before .before .before .before .before .before .before .before .before .before .before .before .before .before .before .before .before .before .before .pre .2, c .before .before .before .before .before .before .outputs .given .1, ap length (c .before .before .before .before .before .before .before .before .before .before .before .before .before .before .before .before .before .before .before .loop .inv .4))))
+    let told = c .before .before .before .before .before .before in
+    let long = told .outputs .given .1 ∙ ap length (c .before .before .before .before .before .before .before .before .before .before .before .before .before .before .before .before .before .before .before .loop .inv .4) in
+    sym (length-take-le (length (now (c .before .before .before .before .before .before .before .before .before .before .before .before .before .before .before .before .before .before .before .before .before .before .before .before .before .before .before .before .before .before .before .before .before .before .args .kept))) _ (le-trans (c .before .before .before .before .before .before .before .before .before .before .before .before .before .before .before .before .before .before .before .before .before .before .before .before .before .before .before .before .before .before .before .before .before .before .pre .2) (le-of-eq (sym long))))
 
 load-requires-2 : tie.Need-load-requires-2 Inv-loop μ-loop
-load-requires-2 c κs = (omega arith, kept-enough (length (now (c .before .before .before .before .before .before .before .before .before .before .before .before .before .before .before .before .before .before .before .before .before .before .before .before .before .before .before .before .before .before .before .before .before .before .before .args .kept))) _ _ (c .before .before .before .before .before .before .before .before .before .before .before .before .before .before .before .before .before .before .before .before .before .before .kept .given))
+load-requires-2 c κs = (zero-le, kept-enough (length (now (c .before .before .before .before .before .before .before .before .before .before .before .before .before .before .before .before .before .before .before .before .before .before .before .before .before .before .before .before .before .before .before .before .before .before .before .args .kept))) _ _ (c .before .before .before .before .before .before .before .before .before .before .before .before .before .before .before .before .before .before .before .before .before .before .kept .given))
 
 same-length-8 : tie.Need-same-length-8 Inv-loop μ-loop
 same-length-8 c = c .before .before .before .outputs2 .given .1 ∙ c .before .before .before .before .before .before .before .before .before .before .before .before .outputs .given .1 ∙ ap length (c .before .before .before .before .before .before .before .before .before .before .before .before .before .before .before .before .before .before .before .before .before .before .before .before .before .loop .inv .4)
@@ -135,7 +133,7 @@ loop-less c =
     (l .outputs) _ (l .queue) (pairs .ensures .0) (l .inv .1) (l .inv .4) refl (l .inv .3 ∙ pre .1 .queue-long) (l .inv .5)
     (ran .result) _ _ _ _ (ran .ensures) _ _ (c .before .before .before .before .before .before .before .before .before .before .before .before .outputs .given .0) (c .before .before .before .before .before .before .before .before .before .before .before .before .before .before .before .before .before .before .before .before .before .before .before .before .before .before .before .before .load .ensures) (c .before .before .before .before .load2 .ensures)
     (sym (c .before .is-stopped .ensures) ∙ c .if2 .left) (sym (c .before .before .before .before .before .before .before .before .is-told .ensures) ∙ c .before .before .before .before .before .before .before .if1 .left) in
-    omega (arith, again .2)
+    all-lent _ _ (again .2)
 
 loop-again : tie.Need-loop-again Inv-loop μ-loop
 loop-again c =
@@ -163,8 +161,11 @@ pub pass-spec : {M : Type 1} → statement M
 pass-spec =
     tie.close
     (tie.spec
-    Inv-loop μ-loop (λ c κs. search needs) (λ c κs. search needs) loop-holds slice-relend-prefix-attempt slice-aggregate-attempt
-    attempt-requires (λ c κs. search needs) (λ c. search needs) same-length-2 (λ c. search needs) (λ c. search needs)
-    (λ c. search needs) (λ c. search needs) returns slice-relend-prefix-load slice-aggregate-load load-requires-2
-    (λ c κs. search needs) (λ c. search needs) same-length-8 (λ c. search needs) (λ c. search needs) (λ c. search needs)
-    (λ c. search needs) returns-2 loop-less loop-again)
+    Inv-loop μ-loop (λ c κs. tt) (λ c κs. (zero-le, from-0 _ _ (c .before .before .before .before .before .before .before .before .before .before .before .pre .2))) loop-holds (λ c. lent-in (c .before .before .before))
+    (λ c. sym (length-take-le (c .before .before .before .before .loop .lent) (c .before .before .before .before .loop .outputs) (lent-in (c .before .before .before .before)))) attempt-requires (λ c κs. tt)
+    (λ c. c .before .before .before .before .before .before .before .before .before .before .before .marks .given ∙ c .before .before .before .before .before .before .before .before .before .before .before .before .before .before .before .before .before .before .loop .inv .0) same-length-2 (λ c. c .before .before .before .before .before .before .before .before .before .next .given ∙ c .before .before .before .before .before .before .before .before .before .before .before .before .before .before .before .before .before .before .loop .inv .1)
+    (λ c. c .before .before .before .before .before .before .before .vars .given ∙ c .before .before .before .before .before .before .before .before .before .before .before .before .before .before .before .before .before .before .loop .inv .2) (λ c. c .before .before .before .before .before .before .before .before .before .before .before .before .before .before .before .before .before .before .before .before .kept .given) (λ c. c .before .before .before .queue .given ∙ c .before .before .before .before .before .before .before .before .before .before .before .before .before .before .before .before .before .before .loop .inv .3)
+    returns slice-relend-prefix-load slice-aggregate-load load-requires-2 (λ c κs. tt)
+    (λ c. c .before .before .before .before .before .before .before .before .before .before .before .before .before .before .before .before .before .before .marks .given ∙ c .before .before .before .before .before .before .before .before .before .before .before .before .before .before .before .before .before .before .before .before .before .before .before .before .before .loop .inv .0) same-length-8 (λ c. c .before .before .before .before .before .before .before .before .before .before .before .before .before .before .before .before .next .given ∙ c .before .before .before .before .before .before .before .before .before .before .before .before .before .before .before .before .before .before .before .before .before .before .before .before .before .loop .inv .1)
+    (λ c. c .before .before .before .before .before .before .before .before .before .before .before .before .before .before .vars .given ∙ c .before .before .before .before .before .before .before .before .before .before .before .before .before .before .before .before .before .before .before .before .before .before .before .before .before .loop .inv .2) (λ c. c .before .before .before .before .before .before .before .before .before .before .before .before .before .before .before .before .before .before .before .before .before .before .before .before .before .before .before .kept .given) (λ c. c .before .before .before .before .before .before .before .before .before .before .queue .given ∙ c .before .before .before .before .before .before .before .before .before .before .before .before .before .before .before .before .before .before .before .before .before .before .before .before .before .loop .inv .3)
+    returns-2 loop-less loop-again)

@@ -1,11 +1,9 @@
 -- `flat_macrostep::run_on` meets its contract: a macrostep that stops leaves the state, and one that ends hands it back.
 -- Assumes nothing.
-use borrow.Author.Needs.{needs}
 use Prim.Native.Nat.{ℕ}
-use mathlib.Core.Path.{_≡_, sym, ap, _∙_}
+use mathlib.Core.Path.{_≡_, refl, sym, ap, _∙_}
 use mathlib.Core.Bool.{true, false}
 use mathlib.Core.List.{List, _++_}
-use native.Mathlib.Omega.{arith}
 use denote.Ref.{now}
 use lib.ListN.{length, take, drop}
 use lib.Seq.{take-append-seam}
@@ -13,6 +11,7 @@ use Rattle.effects.specs.declared.Progress.{Progress}
 use Rattle.effects.specs.Run.{Result, St}
 use Rattle.effects.specs.Work.{stopped?}
 use Rattle.macrostep.specs.Ends.{handed, Ends}
+use Rattle.flat_macrostep.proofs.Lengths.{words-in, both-fill, few-words}
 use Rattle.flat_macrostep.proofs.run_on.Statement.{statement}
 use Rattle.flat_macrostep.proofs.run_on.Tie as tie
 
@@ -43,13 +42,14 @@ returns c =
     stays (now (s .state)) (now (s .outputs)) (c .before .before .before .before .before .before .before .before .before .before .before .before .before .before .pass .result) _ _ _ _ (sym (c .before .is-stopped .ensures) ∙ c .if1 .taken) (c .before .before .before .before .before .before .before .before .before .before .before .before .before .before .pass .ensures)
 
 lay-requires : tie.Need-lay-requires
-lay-requires c κs = omega (arith, c .before .before .before .before .before .before .before .before .before .before .before .next .given, c .before .before .before .before .before .before .before .before .before .before .before .before .before .before .before .before .before .before .before .before .before .before .before .before .before .before .before .before .before .before .before .before .pre .1 .state-long)
+lay-requires c κs = words-in _ _ _ (c .before .before .before .before .before .before .before .before .before .before .before .before .before .before .before .before .before .before .before .before .before .before .before .before .before .before .before .before .before .before .before .before .pre .1 .state-long) _ (c .before .before .before .before .before .before .before .before .before .before .before .next .given)
 
 store-requires : tie.Need-store-requires
 store-requires c κs =
     let sized = c .before .before .before .before .before .before .before .before .before .before .before .before .before .before .before .before .before .before .before .before .before .before .before .before .before .before .before .before .before .before .before .before .before .before .before .before .before .pre .1 in
-    let long = c .before .before .before .before .before .before .before .before .before .before .before .before .before .before .before .before .next .given in
-    (omega (arith, long, sized .few), omega (arith, long, c .before .before .before .before .before .before .before .before .before .before .before .before .before .before .vars .given, c .before .before .before .state .given, sized .state-long))
+    let told = c .before .before .before .before .before .before .before .before .before .before .before .before .before .before in
+    let long = told .before .before .next .given in
+    (few-words _ _ (sized .few) long, both-fill _ _ _ (sized .state-long) _ _ _ long (told .vars .given) (c .before .before .before .state .given))
 
 returns-2 : tie.Need-returns-2
 returns-2 c =
@@ -61,7 +61,7 @@ pub run-on-spec : {M : Type 1} → statement M
 run-on-spec =
     tie.close
     (tie.spec
-    pass-requires (λ c κs. search needs) (λ c. search needs) (λ c. search needs) (λ c. search needs) (λ c. search needs)
-    (λ c. search needs) (λ c. search needs) (λ c. search needs) returns lay-requires store-requires
-    (λ c. search needs) (λ c. search needs) (λ c. search needs) (λ c. search needs) (λ c. search needs) (λ c. search needs)
-    (λ c. search needs) returns-2)
+    pass-requires (λ c κs. tt) (λ c. c .before .before .before .before .before .before .before .before .before .before .before .before .before .marks .given) (λ c. refl) (λ c. c .before .before .before .before .before .before .before .before .before .before .before .outputs .given) (λ c. c .before .before .before .before .before .before .before .before .before .next .given)
+    (λ c. c .before .before .before .before .before .before .before .vars .given) (λ c. c .before .before .before .before .before .kept .given) (λ c. c .before .before .before .queue .given) returns lay-requires store-requires
+    (λ c. c .before .before .before .before .before .before .before .before .before .before .before .before .before .before .before .before .before .before .before .before .before .before .before .marks .given) (λ c. c .before .state2 .given ∙ c .before .before .before .before .before .before .state .given) (λ c. c .before .before .before .before .before .before .before .before .before .before .before .before .before .before .before .before .before .before .before .before .before .outputs .given)
+    (λ c. c .before .before .before .before .before .before .before .before .before .before .before .before .before .before .before .before .before .before .before .next .given) (λ c. c .before .before .before .before .before .before .before .before .before .before .before .before .before .before .before .before .before .vars .given) (λ c. c .before .before .before .before .before .before .before .before .before .before .before .before .before .before .before .kept .given) (λ c. c .before .before .before .before .before .before .before .before .before .before .before .before .before .queue .given) returns-2)

@@ -1,5 +1,4 @@
 -- `flat_microstep::fire_all` meets its contract: the rules before k have fired, and k has the trigger. Assumes nothing.
-use borrow.Author.Needs.{needs}
 use Prim.Native.Nat.{_-_, _<_, _≤_}
 use mathlib.Core.Path.{_≡_, refl, sym, ap, ap₂, _∙_}
 use mathlib.Core.Bool.{true}
@@ -15,6 +14,7 @@ use Rattle.flat.specs.View.{flatView}
 use Rattle.flat_rules.proofs.Readable.{flat-readable}
 use Rattle.marks.specs.Bits.{marked}
 use Rattle.flat_microstep.specs.Stretch.{has?}
+use Rattle.flat_microstep.proofs.Inside.{next-fits}
 use Rattle.flat_microstep.proofs.Firing.{firesWith, no-step, its-step, firing-before}
 use Rattle.flat_microstep.proofs.fire_all.Statement.{statement}
 use Rattle.flat_microstep.proofs.fire_all.Tie as tie
@@ -72,10 +72,10 @@ loop-again c =
     let known = marked (now (s .marks)) in
     let its = its-step f (s .e) known (l .k) (l .inv .5 (test .loop-test .taken)) in (
       e .up-to,
-      search needs,
-      search needs,
-      search needs,
-      search needs,
+      c .before .before .before .before .before .before .before .before .next .given ∙ l .inv .1,
+      c .before .before .before .before .before .before .vars .given ∙ l .inv .2,
+      c .before .before .before .before .outs .given ∙ l .inv .3,
+      c .before .before .queue .given ∙ l .inv .4,
       e .member,
       risen (s .pairs) (firesWith f (s .e) known) (has? f (s .e)) (no-step f (s .e) known) (l .k) _ _ _ _ e
           (fired .fire-one .ensures ∙ ap₂ (doSteps (s .pairs)) its (l .inv .6)),
@@ -99,5 +99,6 @@ pub fire-all-spec : {M : Type 1} → statement M
 fire-all-spec =
     tie.close
     (tie.spec
-    Inv-loop μ-loop loop-holds fire-one-requires (λ c. search needs) seek-requires loop-less loop-again
-    (λ c. search needs) (λ c. search needs) (λ c. search needs) (λ c. search needs) returns)
+    Inv-loop μ-loop loop-holds fire-one-requires
+    (λ c. next-fits _ _ (c .before .before .before .before .before .before .before .before .before .before .before .before .before .loop-test .taken) (c .before .before .before .before .before .before .before .before .before .before .before .before .before .before .before .before .before .before .before .before .before .fits .until)) seek-requires loop-less loop-again
+    (λ c. c .before .loop .inv .1) (λ c. c .before .loop .inv .2) (λ c. c .before .loop .inv .3) (λ c. c .before .loop .inv .4) returns)

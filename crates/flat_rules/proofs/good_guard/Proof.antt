@@ -1,15 +1,16 @@
 -- `flat_rules::good_guard` meets its contract: each literal passed is good. Assumes nothing.
-use borrow.Author.Needs.{needs}
 use borrow.Author.Tests.{not-true, not-false}
-use Prim.Native.Nat.{ℕ, _+_, _-_, _≤_}
+use Prim.Native.Nat.{ℕ, _+_, _-_, _≤_, zero-le}
+use native.Mathlib.Nat.{le-antisymm, lt-trans}
 use mathlib.Core.Path.{_≡_, refl, sym, ap, _∙_}
 use mathlib.Core.Bool.{Bool, true}
-use native.Mathlib.Omega.{arith}
+use lib.ListN.{getD}
 use denote.Ref.{now}
 use Rattle.words.specs.Loops.{allBelow}
 use Rattle.words.proofs.Loops.{allBelow-next, allBelow-no}
 use Rattle.flat.specs.View.{Flat, flatView}
 use Rattle.flat_rules.specs.Tests.{flatLiteralKept, goodGuard?}
+use Rattle.flat_rules.proofs.Read.{first-of-two, in-span, next-in, less-left, place-fits, next-fits}
 use Rattle.flat_rules.proofs.good_guard.Statement.{statement}
 use Rattle.flat_rules.proofs.good_guard.Tie as tie
 
@@ -23,53 +24,57 @@ Inv-loop t k at first count i₀ i = (i ≤ count) × (allBelow (held? (flatView
 abbrev μ-loop : tie.MeasureT-loop
 μ-loop t k at first count i₀ i = count - i
 
-loop-holds : tie.Need-loop-holds Inv-loop μ-loop
-loop-holds c = (omega arith, refl)
+-- the guard's two words, where they are read
+first-read : (c : tie.After-number-in Inv-loop μ-loop) → c .number-in .result ≡ flatView (now (c .before .before .before .args .t)) .asks (c .before .before .before .args .k) .first
+first-read c = c .number-in .ensures .0 ∙ ap (λ (x : ℕ). getD (now (c .before .before .before .args .t)) x 0) (c .before .guard-at .ensures .0)
 
--- the guard's span lies inside the literals
+count-read : (c : tie.After-number-in2 Inv-loop μ-loop) → c .number-in2 .result ≡ flatView (now (c .before .before .before .before .args .t)) .asks (c .before .before .before .before .args .k) .count
+count-read c = c .number-in2 .ensures .0 ∙ ap (λ (x : ℕ). getD (now (c .before .before .before .before .args .t)) (x + 1) 0) (c .before .before .guard-at .ensures .0)
+
 good-literal-requires : tie.Need-good-literal-requires Inv-loop μ-loop
 good-literal-requires c κs =
     let p = c .before .before .before .before .before .before in
-    let f = flatView (now (p .args .t)) in
-    let k = p .args .k in
-    let m : c .before .before .before .number-in .result ≡ f .asks k .first = cc in
-    let n : c .before .before .number-in2 .result ≡ f .asks k .count = cc in
-    (p .pre .0, omega (arith, m, n, p .pre .2, c .loop-test .taken))
+    (p .pre .0, in-span _ _ _ _ _ _ (first-read (c .before .before .before)) (count-read (c .before .before)) (p .pre .2) (c .loop-test .taken))
+
+-- what is told of the literal at i
+told : (c : tie.After-good-literal Inv-loop μ-loop)
+    → c .good-literal .result ≡ held? (flatView (now (c .before .before .before .before .before .before .before .args .t))) (c .before .before .before .before .before .before .before .args .k) (c .before .before .loop .i)
+told c =
+    let s = c .before .before .before .before .before .before .before .args in
+    let f = flatView (now (s .t)) in
+    c .good-literal .ensures ∙ ap (λ (x : ℕ). flatLiteralKept f (s .k) (x + c .before .before .loop .i)) (first-read (c .before .before .before .before))
 
 returns : tie.Need-returns Inv-loop μ-loop
 unfolding goodGuard?
 returns c =
     let s = c .before .before .before .before .before .before .before .before .args in
     let f = flatView (now (s .t)) in
-    let i = c .before .before .before .loop .i in
-    let n : c .before .before .before .before .number-in2 .result ≡ f .asks (s .k) .count = cc in
-    let told : c .before .good-literal .result ≡ held? f (s .k) i = cc in
-    let fails = sym told ∙ not-true (c .before .good-literal .result) (c .if1 .taken) in
-    sym (ap (allBelow (held? f (s .k))) (sym n)
-    ∙ allBelow-no (held? f (s .k)) _ i (c .before .before .loop-test .taken) fails)
+    let fails = sym (told (c .before)) ∙ not-true (c .before .good-literal .result) (c .if1 .taken) in
+    sym (ap (allBelow (held? f (s .k))) (sym (count-read (c .before .before .before .before)))
+    ∙ allBelow-no (held? f (s .k)) _ (c .before .before .before .loop .i) (c .before .before .loop-test .taken) fails)
 
 loop-again : tie.Need-loop-again Inv-loop μ-loop
 loop-again c =
     let s = c .before .before .before .before .before .before .before .before .args in
     let f = flatView (now (s .t)) in
     let l = c .before .before .before .loop in
-    let told : c .before .good-literal .result ≡ held? f (s .k) (l .i) = cc in
-    let holds = sym told ∙ not-false (c .before .good-literal .result) (c .if1 .left) in
-    (omega arith, allBelow-next (held? f (s .k)) (l .i) (l .inv .1) holds)
+    let holds = sym (told (c .before)) ∙ not-false (c .before .good-literal .result) (c .if1 .left) in
+    (next-in _ _ (c .before .before .loop-test .taken), allBelow-next (held? f (s .k)) (l .i) (l .inv .1) holds)
 
 returns-2 : tie.Need-returns-2 Inv-loop μ-loop
 unfolding goodGuard?
 returns-2 c =
     let s = c .before .before .before .before .before .before .args in
     let f = flatView (now (s .t)) in
-    let n : c .before .before .number-in2 .result ≡ f .asks (s .k) .count = cc in
-    let e : c .before .loop .i ≡ f .asks (s .k) .count = omega (arith, n) in
-    sym (ap (allBelow (held? f (s .k))) (sym e) ∙ c .before .loop .inv .1)
+    let end = le-antisymm (c .before .loop .inv .0) (c .loop-test .left) ∙ count-read (c .before .before) in
+    sym (ap (allBelow (held? f (s .k))) (sym end) ∙ c .before .loop .inv .1)
 
 pub good-guard-spec : {M : Type 1} → statement M
 good-guard-spec =
     tie.close
     (tie.spec
-    Inv-loop μ-loop (λ c κs. search needs) (λ c κs. search needs) (λ c. search needs) (λ c κs. search needs)
-    loop-holds (λ c. search needs) good-literal-requires returns (λ c. search needs) (λ c. search needs) loop-again
-    returns-2)
+    Inv-loop μ-loop (λ c κs. (c .before .pre .0, c .before .pre .1)) (λ c κs. first-of-two _ _ (c .guard-at .ensures .1))
+    (λ c. record { fits = lt-trans (c .before .guard-at .ensures .1) (c .before .before .before .good .0 .0) }) (λ c κs. c .before .guard-at .ensures .1)
+    (λ c. (zero-le, refl)) (λ c. place-fits _ _ _ (c .before .before .before .number-in .ensures .1) (c .loop-test .taken) (c .before .before .number-in2 .ensures .1))
+    good-literal-requires returns (λ c. next-fits _ _ (c .before .before .loop-test .taken) (c .before .before .before .before .number-in2 .ensures .1))
+    (λ c. less-left _ _ (c .before .before .loop-test .taken)) loop-again returns-2)
