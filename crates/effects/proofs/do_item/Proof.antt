@@ -1,6 +1,6 @@
 -- `effects::do_item` meets its contract: each arm is that of `doItem`, by what its callees ensure. Assumes nothing.
 use Rattle.effects.specs.Work.{doItem}
-use borrow.Author.Needs.{needs}
+use mathlib.Core.Path.{refl}
 use Rattle.effects.proofs.do_item.Statement.{statement}
 use Rattle.effects.proofs.do_item.Tie as tie
 
@@ -48,10 +48,9 @@ pub do-item-spec : {M : Type 1} → statement M
 do-item-spec =
     tie.close
     (tie.spec
-    (λ c. search needs) (λ c κs. search needs) (λ c. search needs) (λ c κs. search needs) (λ c. search needs)
-    (λ c κs. search needs) (λ c κs. search needs) (λ c κs. search needs) (λ c κs. search needs)
-    (λ c. search needs) (λ c κs. search needs) (λ c κs. search needs) (λ c κs. search needs)
-    (λ c κs. search needs) (λ c. search needs) (λ c κs. search needs) (λ c κs. search needs) (λ c. search needs)
-    (λ c κs. search needs) (λ c κs. search needs) (λ c κs. search needs) (λ c. search needs) returns
-    (λ c. search needs) returns-2 (λ c. search needs) returns-3 (λ c. search needs) returns-4 (λ c. search needs)
-    returns-5 (λ c. search needs) (λ c. search needs) returns-6)
+    (λ c. c .match .keys1) (λ c κs. tt) (λ c. c .match .keys2) (λ c κs. tt) (λ c. c .match .keys3) (λ c κs. tt)
+    (λ c κs. tt) (λ c κs. tt) (λ c κs. tt) (λ c. c .match .keys4) (λ c κs. tt) (λ c κs. tt) (λ c κs. tt) (λ c κs. tt)
+    (λ c. c .match .keys5) (λ c κs. tt) (λ c κs. tt) (λ c. c .match .keys6) (λ c κs. tt) (λ c κs. tt) (λ c κs. tt)
+    (λ c. c .before .outs .given) returns (λ c. c .before .queue .given) returns-2 (λ c. c .before .vars .given) returns-3
+    (λ c. c .before .vars2 .given) returns-4 (λ c. c .before .vars3 .given) returns-5 (λ c. refl) (λ c. c .before .outs2 .given)
+    returns-6)
