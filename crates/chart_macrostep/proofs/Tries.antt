@@ -26,6 +26,32 @@ pub vars-wide : {t : List ℕ} {ors : List Bool} {words : ℕ} {state : List ℕ
     → v ≡ view t .variables → v ≤ k
 vars-wide h long is = omega (arith, h .rules .counts .variables .1)
 
+module _ {t : List ℕ} {ors : List Bool} {words : ℕ} {state : List ℕ} (h : Lent t ors words state) where
+  -- 24 words hold the state's words
+  pub words-wide : {k : ℕ} → k ≡ 24 → words ≤ k
+  words-wide long = omega (arith, h .few)
+
+  -- the state's words are its front
+  pub front-fits : words ≤ length state
+  front-fits = omega (arith, lent-long h)
+
+  pub front-inside : {k : ℕ} → k ≡ words → (0 ≤ 48) × (0 + k ≤ length state)
+  front-inside is = (omega arith, omega (arith, lent-long h))
+
+  pub or-states-fit : {k : ℕ} → k ≡ words → orStates (view t) ≤ k
+  or-states-fit is = omega (arith, h .number)
+
+  module _ {v : ℕ} (variables : v ≡ view t .variables) where
+    -- the variables are behind them
+    pub words-behind : length state ≡ words + v
+    words-behind = lent-long h ∙ ap (λ (i : ℕ). words + i) (sym variables)
+
+    pub behind-inside : {k : ℕ} → k ≡ v → (words ≤ 48) × (words + k ≤ length state)
+    behind-inside is = (omega (arith, h .few), omega (arith, words-behind))
+
+    pub behind-fits : {k n : ℕ} → k ≡ v → n ≡ length state → (words ≤ 48) × (words + k ≡ n)
+    behind-fits is same = (omega (arith, h .few), omega (arith, words-behind))
+
 -- the first n words of a slice, which are filled from another
 filled-front : (n : ℕ) (to from part : List ℕ) → n ≤ length to → n ≤ length from → part ≡ take (length (take n to)) from
     → take n (part ++ drop n to) ≡ take n from

@@ -9,7 +9,9 @@ use Rattle.chart.specs.View.{view}
 use Rattle.chart_rules.specs.Rules.{ChartRules}
 use Rattle.chart_rules.proofs.Readable.{chart-readable}
 
-pub span-in : {t : List ℕ} (at : ℕ) → ChartRules t → at + 1 < length t → Inside (spanAt t at) (view t .items) → ItemsIn t 15 at
-span-in at g l h =
+-- the span is of words i and i + 1 of a record, which has more than n words
+pub span-in : {t : List ℕ} (at i n : ℕ) → i < n → ChartRules t → at + n < length t → Inside (spanAt t (at + i)) (view t .items)
+    → ItemsIn t 15 (at + i)
+span-in at i n few g l h =
     let r = chart-readable g in
-    record { base-in = omega (arith, r .header); span-in = l; items-in = omega (arith, h, r .items) }
+    record { base-in = omega (arith, r .header); span-in = omega arith; items-in = omega (arith, h, r .items) }

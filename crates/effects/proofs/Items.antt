@@ -5,12 +5,12 @@ use mathlib.Core.Path.{_≡_, refl, ap, _∙_}
 use mathlib.Core.Bool.{true, false}
 use mathlib.Core.List.{List, _∷_}
 use native.Mathlib.Omega.{arith}
-use lib.ListN.{getD}
+use lib.ListN.{length, getD}
 use Rattle.words.specs.Loops.{many}
 use Rattle.table.specs.declared.Item.{Item}
 use Rattle.table.specs.Triple.{tripleAt}
 use Rattle.table.specs.Items.{itemIn}
-use Rattle.effects.specs.Work.{Work, stopped?, doItem, doItems, itemsFrom, spanItems}
+use Rattle.effects.specs.Work.{Work, stopped?, doItem, doItems, itemsFrom, spanItems, ItemsIn}
 
 module _ (t : List ℕ) (pairs at k : ℕ) (w : Work) where
   pub step : 0 < k → stopped? (w .n) ≡ false
@@ -29,6 +29,16 @@ module _ (t : List ℕ) (pairs at k : ℕ) (w : Work) where
   unfolding doItems itemsFrom
   done h = let z : k ≡ 0 = omega arith in rw (z, doItems)
 
+-- where k items fit from word `at` on, the first one does, and so do those behind it
+pub first-fits : {k n : ℕ} (at : ℕ) → 0 < k → at + 3 * k ≤ n → at + 2 < n
+first-fits at some h = omega arith
+
+pub rest-fit : {k n : ℕ} (at : ℕ) → 0 < k → at + 3 * k ≤ n → at + 3 + 3 * (k - 1) ≤ n
+rest-fit at some h = omega arith
+
+pub fewer : {k : ℕ} → 0 < k → k - 1 < k
+fewer some = omega arith
+
 -- `count` items from item `first` on, where item 0 begins at `base`
 pub itemsFrom-many : (t : List ℕ) (base first count : ℕ)
     → itemsFrom t (base + 3 * first) count ≡ many (λ i. itemIn (tripleAt t (base + 3 * i))) first count
@@ -40,7 +50,10 @@ itemsFrom-many t base first (suc count) =
     (ap (λ (at : ℕ). itemsFrom t at count) e ∙ itemsFrom-many t base (suc first) count)
 
 -- the items of a span, read word by word
-pub span-items : (t : List ℕ) (base at from first count : ℕ) → from ≡ getD t base 0 → first ≡ getD t at 0 → count ≡ getD t (at + 1) 0
-    → itemsFrom t (from + 3 * first) count ≡ spanItems t base at
-unfolding spanItems
-span-items t base at from first count p q r = rw (p, q, r) (itemsFrom-many t (getD t base 0) (getD t at 0) (getD t (at + 1) 0))
+module _ (t : List ℕ) (base at from first count : ℕ) (p : from ≡ getD t base 0) (q : first ≡ getD t at 0) (r : count ≡ getD t (at + 1) 0) where
+  pub span-items : itemsFrom t (from + 3 * first) count ≡ spanItems t base at
+  unfolding spanItems
+  span-items = rw (p, q, r) (itemsFrom-many t (getD t base 0) (getD t at 0) (getD t (at + 1) 0))
+
+  pub span-fits : ItemsIn t base at → from + 3 * first + 3 * count ≤ length t
+  span-fits h = omega (arith, h .items-in)

@@ -6,7 +6,13 @@ use Rattle.chart.proofs.are_apart.Tie as tie
 
 returns : tie.Need-returns
 unfolding apart
-returns c = cc
+returns c =
+    rw (
+      c .both2 .ensures,
+      c .before .both .ensures,
+      c .before .before .is-and .ensures,
+      c .before .before .before .meeting-of .ensures .0,
+    )
 
 pub are-apart-spec : {M : Type 1} → statement M
 are-apart-spec =

@@ -4,7 +4,7 @@ use Rattle.chart.proofs.is_and.Statement.{statement}
 use Rattle.chart.proofs.is_and.Tie as tie
 
 returns : tie.Need-returns
-returns c = cc
+returns c = rw (c .state-word .ensures .0)
 
 pub is-and-spec : {M : Type 1} → statement M
 is-and-spec = tie.close (tie.spec

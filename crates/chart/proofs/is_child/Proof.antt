@@ -8,7 +8,7 @@ use Rattle.chart.proofs.is_child.Tie as tie
 returns : tie.Need-returns
 returns c =
     let n = c .before .before .head in
-    rw (← n .ensures .0, ltb-yes (c .before .before .before .before .args .j) (n .result) (c .before .if1 .taken)) cc
+    rw (← n .ensures .0, ltb-yes (c .before .before .before .before .args .j) (n .result) (c .before .if1 .taken), c .state-word .ensures .0)
 
 returns-2 : tie.Need-returns-2
 returns-2 c =

@@ -4,7 +4,14 @@ use Rattle.chart.proofs.literal_at.Statement.{statement}
 use Rattle.chart.proofs.literal_at.Tie as tie
 
 returns : tie.Need-returns
-returns c = cc
+returns c =
+    rw (
+      c .literal-of .ensures,
+      c .before .before .before .word-in .ensures,
+      c .before .before .word-in2 .ensures,
+      c .before .word-in3 .ensures,
+      c .before .before .before .before .literal-begin .ensures .0,
+    )
 
 pub literal-at-spec : {M : Type 1} → statement M
 literal-at-spec =

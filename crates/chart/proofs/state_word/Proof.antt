@@ -4,7 +4,7 @@ use Rattle.chart.proofs.state_word.Statement.{statement}
 use Rattle.chart.proofs.state_word.Tie as tie
 
 returns : tie.Need-returns
-returns c = (cc, search needs)
+returns c = (rw (c .number-in .ensures .0, c .before .state-at .ensures .0), c .number-in .ensures .1)
 
 pub state-word-spec : {M : Type 1} → statement M
 state-word-spec = tie.close (tie.spec

@@ -4,7 +4,7 @@ use Rattle.chart.proofs.target_word.Statement.{statement}
 use Rattle.chart.proofs.target_word.Tie as tie
 
 returns : tie.Need-returns
-returns c = (cc, search needs)
+returns c = (rw (c .number-in .ensures .0, c .before .head .ensures .0), c .number-in .ensures .1)
 
 pub target-word-spec : {M : Type 1} → statement M
 target-word-spec = tie.close (tie.spec

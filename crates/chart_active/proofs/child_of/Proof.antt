@@ -6,7 +6,7 @@ use Rattle.chart_active.proofs.child_of.Tie as tie
 
 returns : tie.Need-returns
 unfolding child
-returns c = (cc, search needs)
+returns c = (rw (c .number .ensures .0, c .before .before .before .pre), c .number .ensures .1)
 
 pub child-of-spec : {M : Type 1} → statement M
 child-of-spec = tie.close (tie.spec (λ c κs. search needs) returns)

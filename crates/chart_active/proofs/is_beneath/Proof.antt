@@ -6,7 +6,7 @@ use Rattle.chart_active.proofs.is_beneath.Tie as tie
 
 returns : tie.Need-returns
 unfolding beneath
-returns c = cc
+returns c = rw (c .both .ensures, c .before .is-within .ensures)
 
 pub is-beneath-spec : {M : Type 1} → statement M
 is-beneath-spec = tie.close (tie.spec (λ c κs. search needs) (λ c κs. search needs) returns)

@@ -9,7 +9,7 @@ use Rattle.chart_active.proofs.is_up.Statement.{statement}
 use Rattle.chart_active.proofs.is_up.Tie as tie
 
 returns : tie.Need-returns
-returns c = rw (eqb-yes (c .if1 .taken)) cc
+returns c = rw (eqb-yes (c .if1 .taken))
 
 has-in-requires : tie.Need-has-in-requires
 has-in-requires c κs =
@@ -21,7 +21,7 @@ has-in-requires c κs =
     omega (arith, start .pre .1, c .state-word .ensures .0)
 
 returns-2 : tie.Need-returns-2
-returns-2 c = rw (eqb-no (c .before .before .if1 .left)) cc
+returns-2 c = rw (eqb-no (c .before .before .if1 .left), c .has-in .ensures, c .before .state-word .ensures .0)
 
 pub is-up-spec : {M : Type 1} → statement M
 is-up-spec = tie.close (tie.spec returns (λ c κs. search chart-needs) has-in-requires returns-2)

@@ -6,7 +6,7 @@ use Rattle.chart_active.proofs.keeps_word.Tie as tie
 
 returns : tie.Need-returns
 unfolding keepsWord
-returns c = cc
+returns c = rw (c .state-word .ensures .0)
 
 pub keeps-word-spec : {M : Type 1} → statement M
 keeps-word-spec = tie.close (tie.spec (λ c κs. search needs) returns)

@@ -6,7 +6,7 @@ use Rattle.chart_active.proofs.rank_after.Statement.{statement}
 use Rattle.chart_active.proofs.rank_after.Tie as tie
 
 returns : tie.Need-returns
-returns c = rw (sym (c .before .is-and .ensures) ∙ c .if1 .taken) cc
+returns c = rw (sym (c .before .is-and .ensures) ∙ c .if1 .taken)
 
 returns-2 : tie.Need-returns-2
 returns-2 c = rw (sym (c .before .is-and .ensures) ∙ c .if1 .left) (add-one (c .before .before .before .args .r))

@@ -4,7 +4,7 @@ use Rattle.chart_check.proofs.aim_of.Statement.{statement}
 use Rattle.chart_check.proofs.aim_of.Tie as tie
 
 returns : tie.Need-returns
-returns c = (cc, search needs)
+returns c = (rw (c .target-word .ensures .0, c .before .transition-word .ensures .0), c .target-word .ensures .1)
 
 pub aim-of-spec : {M : Type 1} → statement M
 aim-of-spec =

@@ -30,14 +30,16 @@ unfolding apartFrom?
 returns c =
     let l = c .before .before .before .before in
     let s = l .before .before .before .args in
-    let told : c .before .are-apart .result ≡ before? (view (now (s .t))) (s .k) (s .i) (l .loop .j) = cc in
+    let told =
+    rw (c .before .before .aim-of2 .ensures .0, l .before .aim-of .ensures .0) at (c .before .are-apart .ensures) in
     stops (before? (view (now (s .t))) (s .k) (s .i)) refl (c .before .before .before .loop-test .taken) told (c .if1 .taken)
 
 loop-again : tie.Need-loop-again Inv-loop μ-loop
 loop-again c =
     let l = c .before .before .before .before in
     let s = l .before .before .before .args in
-    let told : c .before .are-apart .result ≡ before? (view (now (s .t))) (s .k) (s .i) (l .loop .j) = cc in
+    let told =
+    rw (c .before .before .aim-of2 .ensures .0, l .before .aim-of .ensures .0) at (c .before .are-apart .ensures) in
     goes-on (before? (view (now (s .t))) (s .k) (s .i)) (l .loop .inv) (c .before .before .before .loop-test .taken) told (c .if1 .left)
 
 returns-2 : tie.Need-returns-2 Inv-loop μ-loop

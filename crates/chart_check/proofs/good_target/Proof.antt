@@ -1,9 +1,6 @@
 -- `chart_check::good_target` meets its contract: what it returns is what its callees say. Assumes nothing.
 use borrow.Author.Tests.{not-true, not-false}
-use mathlib.Core.Path.{_≡_, refl}
-use denote.Ref.{now}
-use Rattle.chart.specs.View.{view, andState?}
-use Rattle.chart_rules.specs.Rules.{aim}
+use mathlib.Core.Path.{sym, _∙_}
 use Rattle.chart_rules.specs.Tests.{goodTarget?}
 use borrow.Author.Needs.{needs}
 use Rattle.chart_check.proofs.good_target.Statement.{statement}
@@ -12,18 +9,14 @@ use Rattle.chart_check.proofs.good_target.Tie as tie
 returns : tie.Need-returns
 unfolding goodTarget?
 returns c =
-    let s = c .before .before .before .before .args in
-    let v = view (now (s .t)) in
-    let e : andState? v (aim v (s .k) (s .i)) ≡ c .before .is-and-state .result = cc in
-    rw (e, not-true (c .before .is-and-state .result) (c .if1 .taken)) refl
+    let told = rw (c .before .before .aim-of .ensures .0) at (c .before .is-and-state .ensures) in
+    rw (sym told ∙ not-true (c .before .is-and-state .result) (c .if1 .taken))
 
 returns-2 : tie.Need-returns-2
 unfolding goodTarget?
 returns-2 c =
-    let s = c .before .before .before .before .before .args in
-    let v = view (now (s .t)) in
-    let e : andState? v (aim v (s .k) (s .i)) ≡ c .before .before .is-and-state .result = cc in
-    rw (e, not-false (c .before .before .is-and-state .result) (c .before .if1 .left)) (c .apart-from .ensures)
+    let told = rw (c .before .before .before .aim-of .ensures .0) at (c .before .before .is-and-state .ensures) in
+    rw (sym told ∙ not-false (c .before .before .is-and-state .result) (c .before .if1 .left)) (c .apart-from .ensures)
 
 pub good-target-spec : {M : Type 1} → statement M
 good-target-spec =

@@ -9,7 +9,7 @@ returns-4 : tie.Need-returns-4
 returns-4 c = (rw (c .before .match .keys4) (c .number .ensures .0), search needs)
 
 returns-5 : tie.Need-returns-5
-returns-5 c = (rw (c .before .before .match .keys5) cc, search needs)
+returns-5 c = (rw (c .before .before .match .keys5, c .before .number2 .ensures .0, c .number3 .ensures .0), search needs)
 
 returns-6 : tie.Need-returns-6
 returns-6 c = (rw (c .before .match .keys6) (c .number4 .ensures .0), search needs)

@@ -4,7 +4,14 @@ use Rattle.chart_engine.proofs.finished_counts.Statement.{statement}
 use Rattle.chart_engine.proofs.finished_counts.Tie as tie
 
 returns : tie.Need-returns
-returns c = cc
+returns c =
+    rw (
+      c .outs-of .ensures .0,
+      c .before .entered-of .ensures,
+      c .before .before .left-of .ensures,
+      c .before .before .before .fired-of .ensures,
+      c .before .before .before .before .micro-of .ensures,
+    )
 
 pub finished-counts-spec : {M : Type 1} → statement M
 finished-counts-spec =

@@ -1,7 +1,6 @@
 -- `chart_entered::is_reached` meets its contract: each branch is one of `reached`; the parent of what is above j has a smaller
 -- number, so it is a state. Assumes nothing.
 use Prim.Native.Nat.{_<_}
-use mathlib.Core.Path.{_≡_}
 use native.Mathlib.Omega.{arith}
 use denote.Ref.{now}
 use Rattle.words.proofs.Tests.{eqb-yes, eqb-no}
@@ -15,16 +14,12 @@ use Rattle.chart_entered.proofs.is_reached.Tie as tie
 returns : tie.Need-returns
 unfolding reached
 returns c =
-    let s = c .before .before .before .args in
-    let o : c .before .state-word .result ≡ view (now (s .t)) .parent (s .j) = cc in
-    rw (← o, eqb-yes (c .if1 .taken)) cc
+    rw (← c .before .state-word .ensures .0, eqb-yes (c .if1 .taken))
 
 returns-2 : tie.Need-returns-2
 unfolding reached
 returns-2 c =
-    let s = c .before .before .before .before .args in
-    let o : c .before .before .state-word .result ≡ view (now (s .t)) .parent (s .j) = cc in
-    rw (← o, eqb-no (c .before .if1 .left), eqb-yes (c .if2 .taken)) cc
+    rw (← c .before .before .state-word .ensures .0, eqb-no (c .before .if1 .left), eqb-yes (c .if2 .taken))
 
 state-word-requires-2 : tie.Need-state-word-requires-2
 state-word-requires-2 c κs =
@@ -46,9 +41,14 @@ has-in-requires c κs =
 returns-3 : tie.Need-returns-3
 unfolding reached
 returns-3 c =
-    let s = c .before .before .before .before .before .before .args in
-    let o : c .before .before .before .before .state-word .result ≡ view (now (s .t)) .parent (s .j) = cc in
-    rw (← o, eqb-no (c .before .before .before .if1 .left), eqb-no (c .before .before .if2 .left)) cc
+    let others = c .before .before in
+    rw (
+      ← others .before .before .state-word .ensures .0,
+      eqb-no (others .before .if1 .left),
+      eqb-no (others .if2 .left),
+      c .has-in .ensures,
+      c .before .state-word2 .ensures .0,
+    )
 
 pub is-reached-spec : {M : Type 1} → statement M
 is-reached-spec =

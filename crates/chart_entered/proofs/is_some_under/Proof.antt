@@ -1,8 +1,7 @@
 -- `chart_entered::is_some_under` meets its contract: what is asked of all targets is asked of those left. Assumes nothing.
 use borrow.Author.Needs.{needs}
-use Prim.Native.Nat.{ℕ, _+_, _≤_}
-use mathlib.Core.Path.{_≡_, sym, ap₂, _∙_}
-use mathlib.Core.Bool.{true, false}
+use Prim.Native.Nat.{_+_, _≤_}
+use mathlib.Core.Path.{_≡_, refl, sym, ap, _∙_}
 use native.Mathlib.Omega.{arith}
 use denote.Ref.{now}
 use Rattle.words.specs.Loops.{many, any}
@@ -28,11 +27,9 @@ unfolding targetsOf
 loop-holds c =
     let start = c .before .before .before in
     let s = start .args in
-    let v = view (now (s .t)) in
-    let first : v .aims (s .k) .first ≡ c .before .transition-word .result = cc in
-    let count = sym (c .transition-word2 .ensures .0 ∙ count-word (now (s .t)) (s .k)) in
+    let count = c .transition-word2 .ensures .0 ∙ count-word (now (s .t)) (s .k) in
     let inside = start .pre .0 .transition-spans (s .k) (start .pre .1) .targets in
-    (omega (arith, first, count, inside), ap₂ (λ (i n : ℕ). any (under (s .itself) v (s .a)) (many (v .target) i n)) first count)
+    rw (c .before .transition-word .ensures .0, count) (inside, refl)
 
 target-word-requires : tie.Need-target-word-requires Inv-loop μ-loop
 target-word-requires c κs =
@@ -45,8 +42,9 @@ returns c =
     let l = c .before .before .before .before .loop in
     let v = view (now (s .t)) in
     let more = c .before .before .before .loop-test .taken in
-    let here : under (s .itself) v (s .a) (v .target (l .i)) ≡ true = cc in
-    sym (l .inv .1 ∙ any-here (under (s .itself) v (s .a)) (v .target) (l .i) (l .left) more here)
+    let asked = under (s .itself) v (s .a) in
+    let here = ap asked (sym (c .before .before .target-word .ensures .0)) ∙ sym (c .before .is-under .ensures) ∙ c .if1 .taken in
+    sym (l .inv .1 ∙ any-here asked (v .target) (l .i) (l .left) more here)
 
 loop-again : tie.Need-loop-again Inv-loop μ-loop
 loop-again c =
@@ -54,8 +52,9 @@ loop-again c =
     let l = c .before .before .before .before .loop in
     let v = view (now (s .t)) in
     let more = c .before .before .before .loop-test .taken in
-    let not-here : under (s .itself) v (s .a) (v .target (l .i)) ≡ false = cc in
-    (omega arith, l .inv .1 ∙ any-later (under (s .itself) v (s .a)) (v .target) (l .i) (l .left) more not-here)
+    let asked = under (s .itself) v (s .a) in
+    let not-here = ap asked (sym (c .before .before .target-word .ensures .0)) ∙ sym (c .before .is-under .ensures) ∙ c .if1 .left in
+    (omega arith, l .inv .1 ∙ any-later asked (v .target) (l .i) (l .left) more not-here)
 
 returns-2 : tie.Need-returns-2 Inv-loop μ-loop
 returns-2 c =

@@ -38,14 +38,14 @@ loop-holds c =
     let s = start .args in
     let v = view (now (s .t)) in
     let rules = start .pre .0 in
-    let first : v .aims (s .k) .first ≡ c .before .transition-word .result = cc in
+    let first = sym (c .before .transition-word .ensures .0) in
     let count = sym (c .transition-word2 .ensures .0 ∙ count-word (now (s .t)) (s .k)) in
     let inside = rules .transition-spans (s .k) (start .pre .1) .targets in
     let same : (p : ℕ → Bool) → any p (targetsOf v (s .k))
     ≡ any p (many (v .target) (c .before .transition-word .result) (c .transition-word2 .result)) =
     λ p. ap₂ (λ (i n : ℕ). any p (many (v .target) i n)) first count in (
-      omega (arith, first, count, inside),
-      (λ m l. rw (← first) (rules .targets (s .k) (start .pre .1) .target-in m (omega (arith, count, l)))),
+      rw (← first, ← count) inside,
+      (λ m l. rw (← first) (rules .targets (s .k) (start .pre .1) .target-in m (rw count l))),
       (λ j. ap (λ (b : Bool). getD (cells (s .entered)) j false || (childOf? v (s .o) j && b)) (same (within v j))),
       λ a. (refl, sym (same (beneath v (s .o))) ∙ a),
     )

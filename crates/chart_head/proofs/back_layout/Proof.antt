@@ -1,10 +1,14 @@
 -- `chart_head::back_layout` meets its contract: what it returns is what its callees say. Assumes nothing.
+use mathlib.Core.Path.{ap₂, _∙_}
+use mathlib.Core.Bool.{_&&_}
 use borrow.Author.Needs.{needs}
 use Rattle.chart_head.proofs.back_layout.Statement.{statement}
 use Rattle.chart_head.proofs.back_layout.Tie as tie
 
 returns : tie.Need-returns
-returns c = cc
+returns c =
+    let last = c .before .both .ensures ∙ ap₂ _&&_ (c .before .before .before .follows2 .ensures) (c .before .before .follows3 .ensures) in
+    c .both2 .ensures ∙ ap₂ _&&_ (c .before .before .before .before .follows .ensures) last
 
 pub back-layout-spec : {M : Type 1} → statement M
 back-layout-spec =

@@ -6,7 +6,13 @@ use Rattle.chart_head.proofs.good_form.Tie as tie
 
 returns : tie.Need-returns
 unfolding goodForm?
-returns c = cc
+returns c =
+    rw (
+      c .both2 .ensures,
+      c .before .both .ensures,
+      c .before .before .number2 .ensures .0,
+      c .before .before .before .number .ensures .0,
+    )
 
 pub good-form-spec : {M : Type 1} → statement M
 good-form-spec =

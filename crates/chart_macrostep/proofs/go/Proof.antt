@@ -1,6 +1,5 @@
 -- `chart_macrostep::go` meets its contract: what is left to do is to go on from the words, variables, outputs and queue so far.
 -- Assumes nothing.
-use borrow.Author.Needs.{needs}
 use mathlib.Core.Path.{_≡_, refl, sym, ap, _∙_}
 use native.Mathlib.Omega.{arith}
 use denote.Ref.{now}
@@ -32,6 +31,26 @@ loop-holds c = (refl, refl, refl, refl, refl)
 run-requires : tie.Need-run-requires Inv-loop μ-loop
 run-requires c κs = c .before .before .before .before .before .before .before .before .before .before .before .before .pre
 
+same-length : tie.Need-same-length Inv-loop μ-loop
+same-length c =
+    let ran = c .before .before .before .before .before .before .before .before .before .before in
+    ran .next .given ∙ ran .before .before .before .before .before .before .before .loop .inv .0
+
+same-length-2 : tie.Need-same-length-2 Inv-loop μ-loop
+same-length-2 c =
+    let ran = c .before .before .before .before .before .before .before .before in
+    ran .vars .given ∙ ran .before .before .before .before .before .before .before .before .before .loop .inv .1
+
+same-length-3 : tie.Need-same-length-3 Inv-loop μ-loop
+same-length-3 c =
+    let ran = c .before .before .before .before .before .before in
+    ran .outs .given ∙ ran .before .before .before .before .before .before .before .before .before .before .before .loop .inv .2
+
+same-length-4 : tie.Need-same-length-4 Inv-loop μ-loop
+same-length-4 c =
+    let ran = c .before .before .before .before in
+    ran .queue .given ∙ ran .before .before .before .before .before .before .before .before .before .before .before .before .before .loop .inv .3
+
 returns : tie.Need-returns Inv-loop μ-loop
 returns c =
     let s = c .before .before .before .before .before .before .before .before .before .before .before .before .before .before .before .before .before .before .before .before .before .before .before .before .args in
@@ -55,7 +74,7 @@ loop-again c =
     )
 
 sub-left : tie.Need-sub-left Inv-loop μ-loop
-sub-left c = omega (arith, c .before .before .before .before .before .before .before .before .before .before .before .before .before .before .before .before .before .before .before .loop-test .taken)
+sub-left c = c .before .before .before .before .before .before .before .before .before .before .before .before .before .before .before .before .before .before .before .loop-test .taken
 
 loop-less : tie.Need-loop-less Inv-loop μ-loop
 loop-less c = omega (arith, c .before .before .before .before .before .before .before .before .before .before .before .before .before .before .before .before .before .before .before .loop-test .taken)
@@ -73,7 +92,7 @@ pub go-spec : {M : Type 1} → statement M
 go-spec =
     tie.close
     (tie.spec
-    Inv-loop μ-loop word-in-requires loop-holds run-requires (λ c κs. search needs) (λ c κs. search needs)
-    (λ c. search needs) (λ c. search needs) (λ c. search needs) (λ c. search needs)
-    returns (λ c κs. search needs) (λ c κs. search needs) sub-left loop-less loop-again (λ c κs. search needs)
-    (λ c. search needs) (λ c. search needs) (λ c. search needs) (λ c. search needs) returns-2)
+    Inv-loop μ-loop word-in-requires loop-holds run-requires (λ c κs. tt) (λ c κs. tt) same-length same-length-2 same-length-3
+    same-length-4 returns (λ c κs. tt) (λ c κs. tt) sub-left loop-less loop-again (λ c κs. tt)
+    (λ c. c .before .before .loop .inv .0) (λ c. c .before .before .loop .inv .1) (λ c. c .before .before .loop .inv .2)
+    (λ c. c .before .before .loop .inv .3) returns-2)

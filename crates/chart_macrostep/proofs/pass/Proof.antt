@@ -25,11 +25,25 @@ returns c =
     (machine-small (lent .rules)) (chart-machine-tame (lent .rules)) (lent .number) (c .before .before .before .before .before .before .before .before .before .before .before .before .before .before .before .before .before .before .before .pre .1) (c .before .before .before .before .before .before .before .before .before .before .before .before .before .before .pairs-of .ensures .0)
     (n .result) _ _ (n .ensures) (sym (c .before .is-told .ensures) ∙ c .if1 .taken)
 
+slice-relend-prefix-load : tie.Need-slice-relend-prefix-load
+slice-relend-prefix-load c =
+    let tried = c .before .before .before in
+    rw (tried .outputs .given .1) (tried .before .before .before .before .before .before .before .before .before .before .before .before .before .before .before .before .pre .1)
+
 slice-aggregate-load : tie.Need-slice-aggregate-load
 slice-aggregate-load c = sym (length-take-le (length (now (c .before .before .before .before .before .before .before .before .before .before .before .before .before .before .before .before .before .before .before .before .args .kept))) _ (omega (arith, c .before .before .before .before .before .before .before .before .before .before .before .before .before .before .before .before .before .before .before .before .pre .1, c .before .before .before .before .outputs .given .1)))
 
 load-requires-2 : tie.Need-load-requires-2
 load-requires-2 c κs = (omega arith, kept-enough (length (now (c .before .before .before .before .before .before .before .before .before .before .before .before .before .before .before .before .before .before .before .before .before .args .kept))) _ _ (c .before .before .before .before .before .before .before .before .before .before .before .before .kept .given))
+
+same-length-4 : tie.Need-same-length-4
+same-length-4 c = c .before .before .before .before .before .before .before .before .before .before .before .before .state .given
+
+same-length-5 : tie.Need-same-length-5
+same-length-5 c = c .before .before .before .outputs2 .given .1 ∙ c .before .before .before .before .before .before .before .before .before .before .outputs .given .1
+
+same-length-6 : tie.Need-same-length-6
+same-length-6 c = c .before .before .before .before .before .before .before .before .before .before .before .before .before .before .before .before .before .kept .given
 
 returns-2 : tie.Need-returns-2
 returns-2 c =
@@ -52,6 +66,17 @@ attempt-requires-2 c κs =
       long = c .before .before .before .before .before .before .before .before .before .before .before .before .before .before .state .given ∙ lent .long;
     }
 
+same-length-7 : tie.Need-same-length-7
+same-length-7 c = c .before .before .before .state2 .given ∙ c .before .before .before .before .before .before .before .before .before .before .before .before .before .before .before .before .before .before .before .state .given
+
+same-length-8 : tie.Need-same-length-8
+same-length-8 c =
+    let again = c .before .before .before .before .before .before .before .before .before .before in
+    c .before .outputs3 .given ∙ again .outputs2 .given .1 ∙ again .before .before .before .before .before .before .before .outputs .given .1
+
+same-length-9 : tie.Need-same-length-9
+same-length-9 c = let again = c .before .before .before .before .before .before .before .before .before .before in again .before .before .before .before .before .before .before .before .before .before .before .before .before .before .kept .given
+
 returns-3 : tie.Need-returns-3
 returns-3 c =
     let s = c .before .before .before .before .before .before .before .before .before .before .before .before .before .before .before .before .before .before .before .before .before .before .before .before .before .before .before .before .before .before .before .before .before .args in
@@ -66,7 +91,8 @@ pub pass-spec : {M : Type 1} → statement M
 pass-spec =
     tie.close
     (tie.spec
-    (λ c κs. search needs) (λ c κs. search needs) (λ c. search needs) slice-aggregate-attempt (λ c κs. search needs)
-    (λ c κs. search needs) (λ c. search needs) (λ c. search needs) (λ c. search needs) returns (λ c. search needs)
-    slice-aggregate-load load-requires-2 (λ c κs. search needs) (λ c. search needs) (λ c. search needs) (λ c. search needs)
-    returns-2 attempt-requires-2 (λ c. search needs) (λ c. search needs) (λ c. search needs) returns-3)
+    (λ c κs. tt) (λ c κs. search needs) (λ c. c .before .before .before .before .before .before .before .before .before .before .before .pre .1)
+    slice-aggregate-attempt (λ c κs. c .before .before .before .before .before .before .before .before .before .before .before .before .pre .0) (λ c κs. tt)
+    (λ c. c .before .before .before .before .before .state .given) (λ c. c .before .before .before .outputs .given .1) (λ c. c .before .before .before .before .before .before .before .before .before .before .kept .given) returns
+    slice-relend-prefix-load slice-aggregate-load load-requires-2 (λ c κs. tt) same-length-4 same-length-5 same-length-6
+    returns-2 attempt-requires-2 same-length-7 same-length-8 same-length-9 returns-3)

@@ -73,10 +73,10 @@ loop-again c =
     let f = one v (cells (s .entered)) in
     let has = l .inv .5 on in (
       e .up-to,
-      search needs,
-      search needs,
-      search needs,
-      search needs,
+      c .before .before .before .before .before .before .before .before .next2 .given ∙ l .inv .1,
+      c .before .before .before .before .before .before .vars .given ∙ l .inv .2,
+      c .before .before .before .before .outs .given ∙ l .inv .3,
+      c .before .before .queue .given ∙ l .inv .4,
       e .member,
       risen (s .pairs) f (λ j. getD (cells (s .entered)) j false) (λ j no. rw no refl) (l .j) _ _ _ _ e
           (d .ensures ∙ ap (doStep (s .pairs) (enterStep v (l .j))) (l .inv .6) ∙ rw has refl),
@@ -95,4 +95,5 @@ enter-all-spec =
     tie.close
     (tie.spec
     Inv-loop μ-loop (λ c κs. search chart-needs) next-requires loop-holds enter-one-requires (λ c. search needs)
-    next-requires-2 loop-less loop-again (λ c. search needs) (λ c. search needs) (λ c. search needs) (λ c. search needs) returns)
+    next-requires-2 loop-less loop-again (λ c. c .before .loop .inv .1) (λ c. c .before .loop .inv .2)
+    (λ c. c .before .loop .inv .3) (λ c. c .before .loop .inv .4) returns)

@@ -61,9 +61,9 @@ loop-again c =
     let has = l .inv .4 (l .j - 1) k in
     let ands = cells (c .before .before .before .before .before .before .before .before .before .before .before .before .before .before .before .except .result) in (
       omega (arith, e .up-to, l .inv .0),
-      search needs,
-      search needs,
-      search needs,
+      c .before .before .before .before .before .before .vars .given ∙ l .inv .1,
+      c .before .before .before .before .outs .given ∙ l .inv .2,
+      c .before .before .queue .given ∙ l .inv .3,
       e .member,
       λ next.
           l .inv .5 next
@@ -95,4 +95,5 @@ leave-all-spec =
     tie.close
     (tie.spec
     Inv-loop μ-loop (λ c κs. search needs) (λ c κs. search chart-needs) last-requires loop-holds (λ c. search needs)
-    leave-one-requires last-requires-2 loop-less loop-again (λ c. search needs) (λ c. search needs) (λ c. search needs) returns)
+    leave-one-requires last-requires-2 loop-less loop-again (λ c. c .before .loop .inv .1) (λ c. c .before .loop .inv .2)
+    (λ c. c .before .loop .inv .3) returns)

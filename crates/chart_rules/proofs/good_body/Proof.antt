@@ -7,7 +7,7 @@ use Rattle.chart_rules.proofs.good_body.Tie as tie
 
 returns : tie.Need-returns
 unfolding goodBody?
-returns c = rw (sym (c .before .before .is-and .ensures) ∙ c .before .if1 .taken) cc
+returns c = rw (sym (c .before .before .is-and .ensures) ∙ c .before .if1 .taken, c .state-word .ensures .0)
 
 returns-2 : tie.Need-returns-2
 unfolding goodBody?

@@ -10,14 +10,18 @@ unfolding goodSpans?
 returns c =
     let n = c .before .before .head in
     let p = c .before .before .before .before .args .p in
-    rw (← n .ensures .0, ltb-yes p (n .result) (c .before .if1 .taken)) cc
+    rw (c .good-state-spans .ensures, rw (n .ensures .0) at (ltb-yes p (n .result) (c .before .if1 .taken)))
 
 returns-2 : tie.Need-returns-2
 unfolding goodSpans?
 returns-2 c =
     let n = c .before .before .head in
     let p = c .before .before .before .before .args .p in
-    rw (← n .ensures .0, ltb-no p (n .result) (c .before .if1 .left)) cc
+    rw (
+      c .good-transition-spans .ensures,
+      n .ensures .0,
+      rw (n .ensures .0) at (ltb-no p (n .result) (c .before .if1 .left)),
+    )
 
 pub good-spans-spec : {M : Type 1} → statement M
 good-spans-spec =

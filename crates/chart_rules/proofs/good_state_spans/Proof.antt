@@ -6,7 +6,13 @@ use Rattle.chart_rules.proofs.good_state_spans.Tie as tie
 
 returns : tie.Need-returns
 unfolding goodStateSpans?
-returns c = cc
+returns c =
+    rw (
+      c .both .ensures,
+      c .before .span-inside2 .ensures,
+      c .before .before .span-inside .ensures,
+      c .before .before .before .state-at .ensures .0,
+    )
 
 pub good-state-spans-spec : {M : Type 1} → statement M
 good-state-spans-spec =

@@ -16,7 +16,16 @@ returns-2 : tie.Need-returns-2
 returns-2 c =
     let p = c .before .before .before .before .before .before .state-word in
     let k = c .before .before .before .before .before .before .before .before .args .k in
-    rw (← p .ensures .0, ltb-yes (p .result) k (c .before .before .before .before .before .if1 .left)) cc
+    let below = ltb-yes (p .result) k (c .before .before .before .before .before .if1 .left) in
+    rw (
+      c .both .ensures,
+      c .before .state-word2 .ensures .0,
+      c .before .before .differs .ensures,
+      c .before .before .before .is-and2 .ensures,
+      c .before .before .before .before .is-and .ensures,
+      ← p .ensures .0,
+      below,
+    )
 
 pub inner-place-spec : {M : Type 1} → statement M
 inner-place-spec =

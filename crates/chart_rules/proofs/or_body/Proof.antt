@@ -14,7 +14,16 @@ returns c =
     let n = stateAt (now (s .t)) (s .k) in
     let exits : n + 4 ≡ n + 3 + 1 = omega arith in
     let entries : n + 6 ≡ n + 5 + 1 = omega arith in
-    cc
+    rw (
+      c .both2 .ensures,
+      c .before .both .ensures,
+      c .before .before .state-word3 .ensures .0,
+      c .before .before .before .state-word2 .ensures .0,
+      c .before .before .before .before .is-child .ensures,
+      c .before .before .before .before .before .state-word .ensures .0,
+      exits,
+      entries,
+    )
 
 pub or-body-spec : {M : Type 1} → statement M
 or-body-spec =

@@ -15,7 +15,7 @@ unfolding goodWord?
 returns c =
     let start = c .before .before .before .before .before .before in
     let is-active = sym (start .pre .4) ∙ sym (c .before .before .has-in .ensures) ∙ c .before .if1 .taken in
-    rw (start .pre .2, is-active) cc
+    rw (start .pre .2, is-active, c .is-child .ensures, c .before .before .before .child-of .ensures .0)
 
 returns-2 : tie.Need-returns-2
 unfolding goodWord?
@@ -24,7 +24,7 @@ returns-2 c =
     let asked = c .before .before .before in
     let sleeps = sym (start .pre .4) ∙ sym (asked .before .has-in .ensures) ∙ asked .if1 .left in
     let keeps = sym (c .before .before .keeps-word .ensures) ∙ c .before .if2 .taken in
-    rw (start .pre .2, sleeps, keeps) cc
+    rw (start .pre .2, sleeps, keeps, c .is-child2 .ensures, asked .before .before .child-of .ensures .0)
 
 returns-3 : tie.Need-returns-3
 unfolding goodWord?
@@ -33,7 +33,7 @@ returns-3 c =
     let asked = c .before .before .before in
     let sleeps = sym (start .pre .4) ∙ sym (asked .before .has-in .ensures) ∙ asked .if1 .left in
     let forgets = sym (c .before .before .keeps-word .ensures) ∙ c .before .if2 .left in
-    rw (start .pre .2, sleeps, forgets) cc
+    rw (start .pre .2, sleeps, forgets, asked .before .before .child-of .ensures .0, c .state-word .ensures .0)
 
 pub good-word-spec : {M : Type 1} → statement M
 good-word-spec =

@@ -15,7 +15,7 @@ returns : tie.Need-returns
 unfolding restWord child
 returns c =
     let is-active = sym (c .before .before .has-in .ensures) ∙ c .before .if1 .taken in
-    rw is-active cc
+    rw (is-active, c .word .ensures, c .before .before .before .before .before .pre .2)
 
 returns-2 : tie.Need-returns-2
 unfolding restWord child
@@ -23,7 +23,7 @@ returns-2 c =
     let asked = c .before .before .before in
     let sleeps = sym (asked .before .has-in .ensures) ∙ asked .if1 .left in
     let keeps = sym (c .before .before .keeps-word .ensures) ∙ c .before .if2 .taken in
-    rw (sleeps, keeps) cc
+    rw (sleeps, keeps, c .word2 .ensures, asked .before .before .before .before .pre .2)
 
 returns-3 : tie.Need-returns-3
 unfolding restWord
@@ -31,7 +31,7 @@ returns-3 c =
     let asked = c .before .before .before in
     let sleeps = sym (asked .before .has-in .ensures) ∙ asked .if1 .left in
     let forgets = sym (c .before .before .keeps-word .ensures) ∙ c .before .if2 .left in
-    rw (sleeps, forgets) cc
+    rw (sleeps, forgets, c .state-word .ensures .0)
 
 pub rest-word-spec : {M : Type 1} → statement M
 rest-word-spec =

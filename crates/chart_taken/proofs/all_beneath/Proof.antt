@@ -2,7 +2,7 @@
 use borrow.Author.Needs.{needs}
 use borrow.Author.Tests.{not-true, not-false}
 use Prim.Native.Nat.{_+_, _≤_}
-use mathlib.Core.Path.{_≡_, sym, _∙_}
+use mathlib.Core.Path.{_≡_, refl, sym, ap, _∙_}
 use native.Mathlib.Omega.{arith}
 use denote.Ref.{now}
 use Rattle.words.specs.Loops.{many, all}
@@ -29,8 +29,8 @@ loop-holds c =
     let behind : n + 7 ≡ n + 6 + 1 = omega arith in
     let inside = s .pre .0 .transition-spans (s .args .k) (s .pre .1) .targets in
     let first = c .before .transition-word-at .ensures .0 in
-    let count : c .transition-word-at2 .result ≡ view (now (s .args .t)) .aims (s .args .k) .count = cc in
-    (omega (arith, inside, first, count), cc)
+    let count = rw behind at (c .transition-word-at2 .ensures .0) in
+    rw (first, count) (inside, refl)
 
 target-word-requires : tie.Need-target-word-requires Inv-loop μ-loop
 target-word-requires c κs =
@@ -42,7 +42,7 @@ returns c =
     let s = c .before .before .before .before .before .before .before .before .args in
     let l = c .before .before .before .before .loop in
     let v = view (now (s .t)) in
-    let told : c .before .is-beneath .result ≡ beneath v (s .o) (v .target (l .i)) = cc in
+    let told = c .before .is-beneath .ensures ∙ ap (beneath v (s .o)) (c .before .before .target-word .ensures .0) in
     sym (l .inv .1 ∙ all-bad (beneath v (s .o)) (v .target) (l .i) (l .left) (c .before .before .before .loop-test .taken)
     (sym told ∙ not-true (c .before .is-beneath .result) (c .if1 .taken)))
 
@@ -51,7 +51,7 @@ loop-again c =
     let s = c .before .before .before .before .before .before .before .before .args in
     let l = c .before .before .before .before .loop in
     let v = view (now (s .t)) in
-    let told : c .before .is-beneath .result ≡ beneath v (s .o) (v .target (l .i)) = cc in (
+    let told = c .before .is-beneath .ensures ∙ ap (beneath v (s .o)) (c .before .before .target-word .ensures .0) in (
       omega arith,
       l .inv .1 ∙ all-good (beneath v (s .o)) (v .target) (l .i) (l .left) (c .before .before .before .loop-test .taken)
           (sym told ∙ not-false (c .before .is-beneath .result) (c .if1 .left)),

@@ -1,25 +1,27 @@
 -- `chart_taken::is_enabled` meets its contract: it asks the trigger, the source and the condition. Assumes nothing.
 use borrow.Author.Needs.{needs}
 use borrow.Author.Tests.{not-true, not-false}
-use mathlib.Core.Path.{_≡_}
-use mathlib.Core.Bool.{false}
+use Prim.Native.Nat.{ℕ}
+use mathlib.Core.Path.{ap, _∙_}
+use mathlib.Core.Bool.{Bool, false}
 use lib.ListN.{getD}
 use native.Mathlib.Omega.{arith}
-use denote.Ref.{now}
 use Rattle.words.proofs.Tests.{eqb-yes, eqb-no}
-use Rattle.chart.specs.View.{view}
 use Rattle.chart_rules.proofs.Readable.{chart-needs}
 use Rattle.states.specs.Cells.{cells}
+use Rattle.states.specs.declared.StateSet.{StateSet}
 use Rattle.chart_meaning.specs.Taken.{enabled}
 use Rattle.chart_taken.proofs.is_enabled.Statement.{statement}
 use Rattle.chart_taken.proofs.is_enabled.Tie as tie
 
+-- whether state k is in a set
+abbrev in? : StateSet → ℕ → Bool
+in? s k = getD (cells s) k false
+
 returns : tie.Need-returns
 unfolding enabled
 returns c =
-    let s = c .before .before .before .before .args in
-    let trigger : c .before .transition-word-at .result ≡ view (now (s .t)) .trigger (s .k) = cc in
-    rw (← trigger, eqb-no (c .if1 .taken))
+    rw (← c .before .transition-word-at .ensures .0, eqb-no (c .if1 .taken))
 
 has-in-requires : tie.Need-has-in-requires
 has-in-requires c κs =
@@ -31,8 +33,8 @@ returns-2 : tie.Need-returns-2
 unfolding enabled
 returns-2 c =
     let s = c .before .before .before .before .before .before .before .args in
-    let trigger : c .before .before .before .before .transition-word-at .result ≡ view (now (s .t)) .trigger (s .k) = cc in
-    let source : c .before .has-in .result ≡ getD (cells (s .acts)) (view (now (s .t)) .source (s .k)) false = cc in
+    let trigger = c .before .before .before .before .transition-word-at .ensures .0 in
+    let source = c .before .has-in .ensures ∙ ap (in? (s .acts)) (c .before .before .transition-word-at2 .ensures .0) in
     let matched = eqb-yes (c .before .before .before .if1 .left) in
     rw (← trigger, matched, ← source, not-true (c .before .has-in .result) (c .if2 .taken))
 
@@ -40,8 +42,8 @@ returns-3 : tie.Need-returns-3
 unfolding enabled
 returns-3 c =
     let s = c .before .before .before .before .before .before .before .before .args in
-    let trigger : c .before .before .before .before .before .transition-word-at .result ≡ view (now (s .t)) .trigger (s .k) = cc in
-    let source : c .before .before .has-in .result ≡ getD (cells (s .acts)) (view (now (s .t)) .source (s .k)) false = cc in
+    let trigger = c .before .before .before .before .before .transition-word-at .ensures .0 in
+    let source = c .before .before .has-in .ensures ∙ ap (in? (s .acts)) (c .before .before .before .transition-word-at2 .ensures .0) in
     let matched = eqb-yes (c .before .before .before .before .if1 .left) in
     let in-source = not-false (c .before .before .has-in .result) (c .before .if2 .left) in
     rw (← trigger, matched, ← source, in-source) (c .meets-condition .ensures)

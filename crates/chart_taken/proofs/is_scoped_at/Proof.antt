@@ -15,7 +15,7 @@ returns c =
     let s = c .before .before .args in
     let n = transitionAt (now (s .t)) (s .k) in
     let behind : n + 7 ≡ n + 6 + 1 = omega arith in
-    cc
+    rw (c .transition-word-at .ensures .0, behind)
 
 pub is-scoped-at-spec : {M : Type 1} → statement M
 is-scoped-at-spec =

@@ -2,7 +2,7 @@
 use borrow.Author.Needs.{needs}
 use borrow.Author.Tests.{not-true, not-false}
 use Prim.Native.Nat.{ℕ, _+_, _≤_}
-use mathlib.Core.Path.{_≡_, sym, _∙_}
+use mathlib.Core.Path.{_≡_, refl, sym, ap, _∙_}
 use native.Mathlib.Omega.{arith}
 use denote.Ref.{now}
 use Rattle.words.specs.Loops.{many, all}
@@ -36,8 +36,8 @@ loop-holds c =
     let behind : n + 3 ≡ n + 2 + 1 = omega arith in
     let inside = s .pre .0 .transition-spans (s .args .k) (s .pre .1) .literals in
     let first = c .before .transition-word-at .ensures .0 in
-    let count : c .transition-word-at2 .result ≡ view (now (s .args .t)) .asks (s .args .k) .count = cc in
-    (omega (arith, inside, first, count), cc)
+    let count = rw behind at (c .transition-word-at2 .ensures .0) in
+    rw (first, count) (inside, refl)
 
 literal-at-requires : tie.Need-literal-at-requires Inv-loop μ-loop
 literal-at-requires c κs =
@@ -50,7 +50,7 @@ returns c =
     let l = c .before .before .before .before .loop in
     let v = view (now (s .t)) in
     let p = holds (cells (s .acts)) (now (s .vars)) in
-    let told : c .before .does-hold .result ≡ p (literal v (l .i)) = cc in
+    let told = c .before .does-hold .ensures ∙ ap p (c .before .before .literal-at .ensures) in
     sym (l .inv .1 ∙ all-bad p (literal v) (l .i) (l .left) (c .before .before .before .loop-test .taken)
     (sym told ∙ not-true (c .before .does-hold .result) (c .if1 .taken)))
 
@@ -60,7 +60,7 @@ loop-again c =
     let l = c .before .before .before .before .loop in
     let v = view (now (s .t)) in
     let p = holds (cells (s .acts)) (now (s .vars)) in
-    let told : c .before .does-hold .result ≡ p (literal v (l .i)) = cc in (
+    let told = c .before .does-hold .ensures ∙ ap p (c .before .before .literal-at .ensures) in (
       omega arith,
       l .inv .1 ∙ all-good p (literal v) (l .i) (l .left) (c .before .before .before .loop-test .taken)
           (sym told ∙ not-false (c .before .does-hold .result) (c .if1 .left)),

@@ -1,7 +1,6 @@
 -- `chart_taken::scope_at` meets its contract: each state that is above all is above the state come to, so the first one met is
 -- the greatest. Assumes nothing.
-use mathlib.Core.Path.{_≡_, _∙_}
-use mathlib.Core.Bool.{true, false}
+use mathlib.Core.Path.{sym, ap, _∙_}
 use native.Mathlib.Omega.{arith}
 use denote.Ref.{now}
 use Rattle.chart.specs.View.{view}
@@ -46,7 +45,7 @@ returns c =
     let rules = c .before .before .before .before .before .before .before .pre .0 in
     let up = parent-smaller v (l .o) (rules .places (l .o) (l .inv .state)) (λ z. omega arith) in
     let parent = c .before .before .state-word .ensures .0 in
-    let told : aboveAll v (s .k) (v .parent (l .o)) ≡ true = cc in
+    let told = ap (aboveAll v (s .k)) (sym parent) ∙ sym (c .before .is-above-all .ensures) ∙ c .if1 .taken in
     (parent ∙ found v (s .k) (l .o) (l .inv) up told, omega arith)
 
 loop-less : tie.Need-loop-less Inv-loop μ-loop
@@ -64,8 +63,9 @@ loop-again c =
     let v = view (now (s .t)) in
     let rules = c .before .before .before .before .before .before .before .pre .0 in
     let up = parent-smaller v (l .o) (rules .places (l .o) (l .inv .state)) (λ z. omega arith) in
-    let told : aboveAll v (s .k) (v .parent (l .o)) ≡ false = cc in
-    rw (c .before .before .state-word .ensures .0) (not-yet v (s .k) (l .o) (l .inv) up told)
+    let parent = c .before .before .state-word .ensures .0 in
+    let told = ap (aboveAll v (s .k)) (sym parent) ∙ sym (c .before .is-above-all .ensures) ∙ c .if1 .left in
+    rw parent (not-yet v (s .k) (l .o) (l .inv) up told)
 
 returns-2 : tie.Need-returns-2 Inv-loop μ-loop
 returns-2 c =

@@ -6,7 +6,9 @@ use Rattle.marks.proofs.add.Tie as tie
 
 returns : tie.Need-returns
 unfolding withMark
-returns c = cc
+returns c =
+    let put = c .before .before in
+    rw (put .put-in .ensures, put .before .with-bit .ensures, put .before .before .before .word-in .ensures)
 
 pub add-spec : {M : Type 1} → statement M
 add-spec =

@@ -6,7 +6,9 @@ use Rattle.marks.proofs.remove.Tie as tie
 
 returns : tie.Need-returns
 unfolding withoutMark
-returns c = cc
+returns c =
+    let put = c .before .before in
+    rw (put .put-in .ensures, put .before .without-bit .ensures, put .before .before .before .word-in .ensures)
 
 pub remove-spec : {M : Type 1} → statement M
 remove-spec =

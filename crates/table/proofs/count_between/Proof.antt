@@ -4,7 +4,7 @@ use Rattle.table.proofs.count_between.Statement.{statement}
 use Rattle.table.proofs.count_between.Tie as tie
 
 returns : tie.Need-returns
-returns c = cc
+returns c = rw (c .between .ensures, c .before .number-in .ensures .0)
 
 pub count-between-spec : {M : Type 1} → statement M
 count-between-spec = tie.close (tie.spec

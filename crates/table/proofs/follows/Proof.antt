@@ -12,7 +12,8 @@ add-result : tie.Need-add-result
 add-result c = omega (arith, mul-le-mul (c .before .before .before .before .pre .2) (c .number-in3 .ensures .1))
 
 returns : tie.Need-returns
-returns c = cc
+returns c =
+    rw (c .before .before .number-in .ensures .0, c .before .number-in2 .ensures .0, c .number-in3 .ensures .0)
 
 pub follows-spec : {M : Type 1} → statement M
 follows-spec =

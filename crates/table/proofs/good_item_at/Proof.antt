@@ -4,7 +4,13 @@ use Rattle.table.proofs.good_item_at.Statement.{statement}
 use Rattle.table.proofs.good_item_at.Tie as tie
 
 returns : tie.Need-returns
-returns c = cc
+returns c =
+    rw (
+      c .good-item .ensures,
+      c .before .before .before .word-in .ensures,
+      c .before .before .word-in2 .ensures,
+      c .before .word-in3 .ensures,
+    )
 
 pub good-item-at-spec : {M : Type 1} → statement M
 good-item-at-spec =

@@ -4,7 +4,13 @@ use Rattle.table.proofs.item_at.Statement.{statement}
 use Rattle.table.proofs.item_at.Tie as tie
 
 returns : tie.Need-returns
-returns c = cc
+returns c =
+    rw (
+      c .item-of .ensures,
+      c .before .before .before .word-in .ensures,
+      c .before .before .word-in2 .ensures,
+      c .before .word-in3 .ensures,
+    )
 
 pub item-at-spec : {M : Type 1} → statement M
 item-at-spec =

@@ -4,7 +4,8 @@ use Rattle.table.proofs.span_inside.Statement.{statement}
 use Rattle.table.proofs.span_inside.Tie as tie
 
 returns : tie.Need-returns
-returns c = cc
+returns c =
+    rw (c .before .before .number-in .ensures .0, c .before .number-in2 .ensures .0, c .number-in3 .ensures .0)
 
 pub span-inside-spec : {M : Type 1} → statement M
 span-inside-spec =
