@@ -21,12 +21,15 @@ lay-append at (w ∷ ws) vs room =
     let e : at + 1 + length ws ≡ at + suc (length ws) = omega arith in
     lay-append (at + 1) ws vs (set room at w) ∙ ap (λ (i : ℕ). lay i vs (lay (at + 1) ws (set room at w))) e
 
--- one word more behind those that are laid
+-- words laid behind others are laid with them; and one word more
+pub lay-both : (at : ℕ) (room ws vs : List ℕ) {mid new : List ℕ} → mid ≡ lay at ws room
+    → new ≡ lay (at + length ws) vs mid → new ≡ lay at (ws ++ vs) room
+lay-both at room ws vs p q = q ∙ ap (lay (at + length ws) vs) p ∙ sym (lay-append at ws vs room)
+
 pub lay-more : (at : ℕ) (room ws : List ℕ) (w : ℕ) {mid new : List ℕ} → mid ≡ lay at ws room
     → new ≡ set mid (at + length ws) w → new ≡ lay at (ws ++ (w ∷ [])) room
 unfolding lay
-lay-more at room ws w p q =
-    q ∙ ap (λ (l : List ℕ). set l (at + length ws) w) p ∙ sym (lay-append at ws (w ∷ []) room)
+lay-more at room ws w p q = lay-both at room ws (w ∷ []) p q
 
 -- a place some words further is still a number
 pub place-fits : {at : ℕ} (k : ℕ) → at < 1000000 → k < 1000000 → Fits w64 (at + k)
