@@ -91,6 +91,13 @@ module _ {t : List ℕ} (r : ChartRules t) where
         r .counts .states .1,
       )
 
+  -- where the heading ends, and the whole
+  pub heading-end : {n : ℕ} → n ≡ length (heading gt) → n < 1000
+  heading-end e = omega (arith, e, heading-few)
+
+  pub encode-end : {n : ℕ} → n ≡ length (encode gt) → n < 4294967296
+  encode-end e = omega (arith, e, encode-few)
+
   pub guards-most : length (gt .guards) ≤ 2351
   guards-most = omega (arith, guards-bound (view t), guards-few r)
 

@@ -32,6 +32,13 @@ use Rattle.flatten_head.specs.declared.Places.{Places}
 use Rattle.flatten_head.specs.Sizes.{SizesOf, PlacesOf}
 use Rattle.flatten_head.specs.Named.{of?, named}
 
+-- ---- the header's counts, of which five are read
+pub same-counts : (room : List ℕ) (all machines states guards literals rules : ℕ) {a b d e f : ℕ} {a′ b′ d′ e′ f′ : ℕ}
+    → a ≡ a′ → b ≡ b′ → d ≡ d′ → e ≡ e′ → f ≡ f′
+    → lay 0 (2 ∷ all ∷ machines ∷ states ∷ a ∷ b ∷ d ∷ e ∷ guards ∷ literals ∷ f ∷ rules ∷ []) room
+    ≡ lay 0 (2 ∷ all ∷ machines ∷ states ∷ a′ ∷ b′ ∷ d′ ∷ e′ ∷ guards ∷ literals ∷ f′ ∷ rules ∷ []) room
+same-counts room all machines states guards literals rules p q r s t = rw (p, q, r, s, t) refl
+
 -- ---- items
 rows-words : (t : List ℕ) (base first count : ℕ)
     → joined tripleRow (many (λ i. tripleAt t (base + 3 * i)) first count)

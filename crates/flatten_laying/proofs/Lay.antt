@@ -1,4 +1,4 @@
--- Laws of words laid into others: one run behind another, what is changed and what is not, and one turn of a loop that lays
+-- Laws of words laid into others: one run behind another, one word behind a run, what is changed and what is not, and one turn of a loop that lays
 -- words. Assumes nothing.
 use Prim.Native.Nat.{ℕ, suc, _+_, _-_, _≤_, _<_}
 use mathlib.Core.Path.{_≡_, refl, sym, ap, _∙_}
@@ -6,6 +6,8 @@ use mathlib.Core.List.{List, [], _∷_, _++_, append-assoc}
 use native.Mathlib.Nat.{add-zero, le-refl}
 use native.Mathlib.Numerals.{add-one}
 use native.Mathlib.Omega.{arith}
+use mir.Syntax.{w64}
+use mir.Val.{Fits}
 use lib.ListN.{length, getD, set, take, drop, length-set}
 use lib.Seq.{sets, sets-eq, take-set-le, drop-set-lt, length-take-le, take-append-seam, drop-at, getD-take, getD-drop}
 use Rattle.words.specs.Loops.{many}
@@ -18,6 +20,20 @@ lay-append at [] vs room = ap (λ (i : ℕ). lay i vs room) (sym (add-zero at))
 lay-append at (w ∷ ws) vs room =
     let e : at + 1 + length ws ≡ at + suc (length ws) = omega arith in
     lay-append (at + 1) ws vs (set room at w) ∙ ap (λ (i : ℕ). lay i vs (lay (at + 1) ws (set room at w))) e
+
+-- words laid behind others are laid with them; and one word more
+pub lay-both : (at : ℕ) (room ws vs : List ℕ) {mid new : List ℕ} → mid ≡ lay at ws room
+    → new ≡ lay (at + length ws) vs mid → new ≡ lay at (ws ++ vs) room
+lay-both at room ws vs p q = q ∙ ap (lay (at + length ws) vs) p ∙ sym (lay-append at ws vs room)
+
+pub lay-more : (at : ℕ) (room ws : List ℕ) (w : ℕ) {mid new : List ℕ} → mid ≡ lay at ws room
+    → new ≡ set mid (at + length ws) w → new ≡ lay at (ws ++ (w ∷ [])) room
+unfolding lay
+lay-more at room ws w p q = lay-both at room ws (w ∷ []) p q
+
+-- a place some words further is still a number
+pub place-fits : {at : ℕ} (k : ℕ) → at < 1000000 → k < 1000000 → Fits w64 (at + k)
+place-fits k h l = record { fits = omega arith }
 
 -- ---- what is changed, and what is not
 pub lay-length : (at : ℕ) (ws room : List ℕ) → length (lay at ws room) ≡ length room

@@ -1,8 +1,8 @@
 -- The aid chart flattened, by computation: how large its table is and can be, and what it does on 01's seven events.
 use Prim.Native.Nat.{ℕ}
-use mathlib.Core.Path.{_≡_, refl}
+use mathlib.Core.Path.{_≡_, refl, sym, ap, subst}
 use mathlib.Core.List.{List, [], _∷_}
-use lib.ListN.{length}
+use lib.ListN.{length, getD}
 use Rattle.chart.specs.View.{view}
 use Rattle.chart.specs.Aid.{aid}
 use Rattle.flat_meaning.specs.Calls.{FlatRan, startFlat, runFlat}
@@ -10,11 +10,31 @@ use Rattle.flat_meaning.specs.Opened.{flatOpened}
 use Rattle.flatten_meaning.specs.Tables.{Table}
 use Rattle.flatten_meaning.specs.Flattened.{flattened}
 use Rattle.flatten_meaning.specs.Room.{guardsBound, literalsBound, rulesBound, roomNeeded}
-use Rattle.flatten_meaning.specs.Encoded.{allLiterals, encode}
+use Rattle.flatten_meaning.specs.Encoded.{allLiterals, header, encode}
 use Rattle.flatten_meaning.specs.Opened.{flattenOpened}
 
 abbrev pub flatAid : Table
 flatAid = flattened (view aid)
+
+-- Its words: the header; three machines; six states; nine guards; 18 literals; six items; 16 rules.
+abbrev flatWords : List ℕ
+flatWords =
+    2 ∷ 213 ∷ 3 ∷ 6 ∷ 4 ∷ 1 ∷ 4 ∷ 1 ∷ 9 ∷ 18 ∷ 6 ∷ 16 ∷
+    18 ∷ 21 ∷ 27 ∷ 45 ∷ 99 ∷ 117 ∷
+    0 ∷ 2 ∷ 4 ∷
+    0 ∷ 0 ∷ 1 ∷ 1 ∷ 2 ∷ 2 ∷
+    0 ∷ 1 ∷ 1 ∷ 1 ∷ 2 ∷ 2 ∷ 4 ∷ 2 ∷ 6 ∷ 2 ∷ 8 ∷ 2 ∷ 10 ∷ 2 ∷ 12 ∷ 5 ∷ 17 ∷ 1 ∷
+    0 ∷ 0 ∷ 0 ∷ 0 ∷ 1 ∷ 0 ∷ 0 ∷ 2 ∷ 0 ∷ 4 ∷ 1 ∷ 0 ∷ 0 ∷ 3 ∷ 0 ∷ 4 ∷ 1 ∷ 0 ∷ 0 ∷ 4 ∷ 0 ∷ 4 ∷ 1 ∷ 0 ∷ 0 ∷ 5 ∷ 0 ∷
+    4 ∷ 1 ∷ 0 ∷ 4 ∷ 2 ∷ 0 ∷ 4 ∷ 5 ∷ 0 ∷ 4 ∷ 1 ∷ 0 ∷ 3 ∷ 0 ∷ 0 ∷ 5 ∷ 5 ∷ 0 ∷ 5 ∷ 2 ∷ 0 ∷ 5 ∷ 3 ∷ 0 ∷ 0 ∷ 3 ∷ 0 ∷
+    2 ∷ 0 ∷ 20000 ∷ 5 ∷ 1 ∷ 0 ∷ 0 ∷ 0 ∷ 0 ∷ 1 ∷ 0 ∷ 0 ∷ 0 ∷ 2 ∷ 0 ∷ 0 ∷ 3 ∷ 0 ∷
+    0 ∷ 0 ∷ 0 ∷ 0 ∷ 2 ∷ 65535 ∷ 0 ∷ 0 ∷ 0 ∷ 0 ∷ 0 ∷ 1 ∷ 0 ∷ 0 ∷ 8 ∷ 4 ∷ 1 ∷ 65535 ∷ 0 ∷ 0 ∷ 0 ∷ 0 ∷ 0 ∷ 4 ∷
+    1 ∷ 1 ∷ 3 ∷ 5 ∷ 1 ∷ 65535 ∷ 1 ∷ 1 ∷ 1 ∷ 0 ∷ 0 ∷ 0 ∷ 2 ∷ 5 ∷ 5 ∷ 2 ∷ 1 ∷ 65535 ∷ 2 ∷ 5 ∷ 5 ∷ 0 ∷ 0 ∷ 4 ∷
+    2 ∷ 2 ∷ 2 ∷ 4 ∷ 1 ∷ 3 ∷ 2 ∷ 3 ∷ 3 ∷ 5 ∷ 1 ∷ 65535 ∷ 2 ∷ 3 ∷ 3 ∷ 0 ∷ 0 ∷ 2 ∷ 3 ∷ 4 ∷ 4 ∷ 3 ∷ 1 ∷ 65535 ∷
+    3 ∷ 4 ∷ 4 ∷ 0 ∷ 0 ∷ 5 ∷ 4 ∷ 6 ∷ 6 ∷ 4 ∷ 1 ∷ 3 ∷ 2 ∷ 7 ∷ 3 ∷ 5 ∷ 1 ∷ 65535 ∷ 2 ∷ 7 ∷ 7 ∷ 0 ∷ 0 ∷ 0 ∷ []
+
+words-are : encode flatAid ≡ flatWords
+unfolding flattenOpened
+words-are = refl
 
 -- How large it is ..
 pub record Sizes : Type 0 where
@@ -24,8 +44,13 @@ pub record Sizes : Type 0 where
   pub words : length (encode flatAid) ≡ 213
 
 pub sizes : Sizes
-unfolding flattenOpened
-sizes = record { guards = refl; literals = refl; rules = refl; words = refl }
+unfolding header encode
+sizes = record {
+  guards = ap (λ (ws : List ℕ). getD ws 8 0) words-are;
+  literals = ap (λ (ws : List ℕ). getD ws 9 0) words-are;
+  rules = ap (λ (ws : List ℕ). getD ws 11 0) words-are;
+  words = ap length words-are;
+}
 
 -- .. and can be. 01, The aid chart: "Its flat bounds are 62 guards, 146 literals, 104 rules, 1,231 words".
 pub record Bounds : Type 0 where
@@ -72,9 +97,9 @@ pub record SevenEvents (flat : List ℕ) : Type 0 where
   pub seventh : runFlat flat (1 ∷ 3 ∷ 4 ∷ 40000 ∷ []) 2 noOutputs
       ≡ done 1 2 1 (1 ∷ 2 ∷ 4 ∷ 40000 ∷ []) (3 ∷ 0 ∷ 0 ∷ 0 ∷ 0 ∷ 0 ∷ 0 ∷ 0 ∷ [])
 
-pub seven : SevenEvents (encode flatAid)
-unfolding flatOpened flattenOpened
-seven = record {
+seven-by-words : SevenEvents flatWords
+unfolding flatOpened
+seven-by-words = record {
   started = λ a b c d. refl;
   first = refl;
   second = refl;
@@ -84,3 +109,6 @@ seven = record {
   sixth = refl;
   seventh = refl;
 }
+
+pub seven : SevenEvents (encode flatAid)
+seven = subst SevenEvents (sym words-are) seven-by-words

@@ -1,14 +1,16 @@
 -- `flatten_literals::put_active` meets its contract: a child of the root has one literal, any other state two.
 -- Assumes nothing.
 use borrow.Author.Needs.{needs}
-use mathlib.Core.Path.{_≡_, _∙_}
+use Prim.Native.Nat.{ℕ}
+use mathlib.Core.Path.{sym, ap, _∙_}
 use mathlib.Core.Logic.{_≢_}
 use native.Mathlib.Omega.{arith}
 use denote.Ref.{now}
+use lib.ListN.{getD}
 use Rattle.chart.specs.View.{view}
 use Rattle.chart_rules.proofs.Readable.{chart-readable, chart-needs}
 use Rattle.chart_meaning.proofs.Tree.{tree, up-lt, grand-lt}
-use Rattle.flatten_meaning.specs.Flattened.{grand, activeGuard}
+use Rattle.flatten_meaning.specs.Flattened.{grand}
 use Rattle.flatten_literals.proofs.Literals.{active-top, active-inner}
 use Rattle.flatten_literals.proofs.put_active.Statement.{statement}
 use Rattle.flatten_literals.proofs.put_active.Tie as tie
@@ -19,7 +21,7 @@ returns c =
     let j = start .args .j in
     let v = view (now (start .args .t)) in
     let a = c .before .before .before .before .before .word .ensures ∙ start .pre .3 j (start .pre .1) in
-    let top : v .parent j ≡ 0 = cc in
+    let top = sym (c .before .state-word .ensures .0) ∙ c .if1 .taken in
     (active-top v j a top (c .before .before .before .before .put-current .ensures .0), omega arith)
 
 state-word-requires-2 : tie.Need-state-word-requires-2
@@ -43,7 +45,9 @@ returns-2 c =
     let inner : v .parent j ≢ 0 = λ z. c .before .before .before .before .before .before .if1 .left (o ∙ z) in
     let up = grand-lt (tree (start .pre .0)) j (start .pre .1) (start .pre .2) inner in
     let named = start .pre .4 (grand v j) (omega arith) in
-    let g : c .before .before .before .word2 .result ≡ activeGuard v (grand v j) = cc in
+    let grandparent = c .before .before .before .before .state-word2 .ensures .0 ∙ ap (v .parent) o in
+    let g = c .before .before .before .word2 .ensures
+    ∙ ap (λ (i : ℕ). getD (now (start .args .actives)) i 0) grandparent ∙ named in
     (active-inner v j a inner g (current .0) (c .before .before .put-holds .ensures .0), omega arith)
 
 pub put-active-spec : {M : Type 1} → statement M

@@ -49,7 +49,7 @@ literal-at-requires c κs =
     let start = c .before .before .before .before .before .before .before .before in
     let k = start .args .k in
     let v = view (now (start .args .t)) in
-    let first : c .before .before .before .before .transition-word .result ≡ v .asks k .first = cc in
+    let first = c .before .before .before .before .transition-word .ensures .0 in
     let count = c .before .before .before .transition-word2 .ensures .0 ∙ count-word (now (start .args .t)) k in
     let inside = start .pre .0 .transition-spans k (start .pre .1) .literals in
     (chart-readable (start .pre .0), omega (arith, first, count, inside))
@@ -60,7 +60,7 @@ put-flat-requires c κs =
     let k = start .args .k in
     let v = view (now (start .args .t)) in
     let i = c .before .before .before .loop .i in
-    let first : c .before .before .before .before .before .transition-word .result ≡ v .asks k .first = cc in
+    let first = c .before .before .before .before .before .transition-word .ensures .0 in
     let count = c .before .before .before .before .transition-word2 .ensures .0 ∙ count-word (now (start .args .t)) k in
     let few = start .pre .0 .transition-spans k (start .pre .1) .few-literals in
     let read = c .literal-at .ensures ∙ ap (λ (n : ℕ). literal v (n + i)) first in
@@ -91,7 +91,7 @@ returns c =
     let l = c .before .loop in
     let count = c .before .before .transition-word2 .ensures .0 ∙ count-word (now (start .args .t)) k in
     let few = start .pre .0 .transition-spans k (start .pre .1) .few-literals in
-    let first : c .before .before .before .transition-word .result ≡ v .asks k .first = cc in
+    let first = c .before .before .before .transition-word .ensures .0 in
     let all : l .i ≡ v .asks k .count = omega arith in (
       subst (λ (ls : List FlatLiteral). Told (start .args .at) ls (now (start .args .room)) (l .next) (l .room))
           (ap₂ (flats v) first all) (l .inv .2),

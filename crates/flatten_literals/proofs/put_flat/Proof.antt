@@ -1,15 +1,17 @@
 -- `flatten_literals::put_flat` meets its contract: each kind of literal has its words; a state's guard is a cell of the
 -- array. Assumes nothing.
 use borrow.Author.Needs.{needs}
-use mathlib.Core.Path.{_≡_}
+use Prim.Native.Nat.{ℕ}
+use mathlib.Core.Path.{_≡_, ap, _∙_}
 use mathlib.Core.Bool.{true}
 use native.Mathlib.Omega.{arith}
 use denote.Ref.{now}
 use lib.Dec.{ltb}
+use lib.ListN.{getD}
 use Rattle.words.proofs.Tests.{and-l, ltb-lt}
 use Rattle.chart.specs.View.{view}
 use Rattle.flatten_meaning.specs.Encoded.{literalTriple}
-use Rattle.flatten_meaning.specs.Flattened.{activeGuard, flatLiteral}
+use Rattle.flatten_meaning.specs.Flattened.{flatLiteral}
 use Rattle.flatten_literals.proofs.put_flat.Statement.{statement}
 use Rattle.flatten_literals.proofs.put_flat.Tie as tie
 
@@ -21,8 +23,8 @@ returns c =
     let is = c .before .before .before .before .before .before .before .literal .given .1 in
     let a = c .before .before .before .before .before .before .before .literal .given .0 .0 in
     let named : ltb a (v .states) ≡ true = and-l (ltb a (v .states)) _ (rw is at (start .pre .1)) in
-    let g : c .before .before .before .word .result ≡ activeGuard v a =
-    cc (start .pre .0 a (ltb-lt a (v .states) named)) in
+    let cell = ap (λ (i : ℕ). getD (now (start .args .actives)) i 0) (c .before .before .before .before .wide .ensures .0) in
+    let g = c .before .before .before .word .ensures ∙ cell ∙ start .pre .0 a (ltb-lt a (v .states) named) in
     (rw (is, ← g) (c .before .before .put-holds .ensures .0), omega arith)
 
 returns-2 : tie.Need-returns-2
@@ -33,8 +35,8 @@ returns-2 c =
     let is = c .before .before .before .before .before .before .before .literal2 .given .1 in
     let a = c .before .before .before .before .before .before .before .literal2 .given .0 .0 in
     let named : ltb a (v .states) ≡ true = and-l (ltb a (v .states)) _ (rw is at (start .pre .1)) in
-    let g : c .before .before .before .word2 .result ≡ activeGuard v a =
-    cc (start .pre .0 a (ltb-lt a (v .states) named)) in
+    let cell = ap (λ (i : ℕ). getD (now (start .args .actives)) i 0) (c .before .before .before .before .wide2 .ensures .0) in
+    let g = c .before .before .before .word2 .ensures ∙ cell ∙ start .pre .0 a (ltb-lt a (v .states) named) in
     (rw (is, ← g) (c .before .before .put-fails .ensures .0), omega arith)
 
 returns-3 : tie.Need-returns-3

@@ -1,7 +1,7 @@
 -- `flatten_pairs::does_block` meets its contract: it makes the tests of `blocks` in their order. Assumes nothing.
 use borrow.Author.Needs.{needs}
 use borrow.Author.Tests.{not-true, not-false}
-use mathlib.Core.Path.{_≡_, sym, _∙_}
+use mathlib.Core.Path.{_≡_, sym, ap₂, _∙_}
 use mathlib.Core.Bool.{true, false}
 use lib.Dec.{eqb}
 use denote.Ref.{now}
@@ -52,7 +52,8 @@ returns-3 c =
     let same : eqb (v .trigger (s .s)) (v .trigger (s .k)) ≡ true =
     rw (← first, ← second) (eqb-yes (c .before .before .before .before .before .if1 .left)) in
     let near = c .before .before .before .before .are-related in
-    let meet : c .can-meet .result ≡ meets v (v .source (s .s)) (v .source (s .k)) = cc in
+    let sources = ap₂ (meets v) (c .before .before .transition-word3 .ensures .0) (c .before .transition-word4 .ensures .0) in
+    let meet = c .can-meet .ensures ∙ sources in
     rw (same, sym (near .ensures) ∙ not-false (near .result) (c .before .before .before .if2 .left)) meet
 
 pub does-block-spec : {M : Type 1} → statement M

@@ -1,10 +1,11 @@
 -- `flatten_pairs::is_bare` meets its contract: it has no literals, and is not blocked. Assumes nothing.
 use borrow.Author.Needs.{needs}
-use Prim.Native.Nat.{_+_}
-use mathlib.Core.Path.{_≡_, _∙_}
+use Prim.Native.Nat.{ℕ}
+use mathlib.Core.Path.{_≡_, sym, ap, _∙_}
 use mathlib.Core.Bool.{true, false}
-use native.Mathlib.Omega.{arith}
+use native.Mathlib.Nat.{add-assoc}
 use lib.Dec.{eqb}
+use lib.ListN.{getD}
 use denote.Ref.{now}
 use Rattle.words.proofs.Tests.{eqb-yes, eqb-no}
 use Rattle.chart.specs.View.{transitionAt, view}
@@ -21,9 +22,8 @@ unfolding bare literalsOf
 returns c =
     let s = c .before .before .before .args in
     let v = view (now (s .t)) in
-    let n = transitionAt (now (s .t)) (s .k) in
-    let behind : n + 3 ≡ n + 2 + 1 = omega arith in
-    let count : c .before .transition-word .result ≡ v .asks (s .k) .count = cc in
+    let count-word = ap (λ (i : ℕ). getD (now (s .t)) i 0) (sym (add-assoc (transitionAt (now (s .t)) (s .k)) 2 1)) in
+    let count = c .before .transition-word .ensures .0 ∙ count-word in
     let some : eqb (v .asks (s .k) .count) 0 ≡ false = rw (← count) (eqb-no (c .if1 .taken)) in
     rw (many-none (λ i. literalIn (v .literal i)) (v .asks (s .k) .first) (v .asks (s .k) .count) ∙ some)
 
@@ -32,9 +32,8 @@ unfolding bare literalsOf
 returns-2 c =
     let s = c .before .before .before .before .args in
     let v = view (now (s .t)) in
-    let n = transitionAt (now (s .t)) (s .k) in
-    let behind : n + 3 ≡ n + 2 + 1 = omega arith in
-    let count : c .before .before .transition-word .result ≡ v .asks (s .k) .count = cc in
+    let count-word = ap (λ (i : ℕ). getD (now (s .t)) i 0) (sym (add-assoc (transitionAt (now (s .t)) (s .k)) 2 1)) in
+    let count = c .before .before .transition-word .ensures .0 ∙ count-word in
     let none : eqb (v .asks (s .k) .count) 0 ≡ true = rw (← count) (eqb-yes (c .before .if1 .left)) in
     rw (many-none (λ i. literalIn (v .literal i)) (v .asks (s .k) .first) (v .asks (s .k) .count) ∙ none)
     (c .is-unblocked .ensures)

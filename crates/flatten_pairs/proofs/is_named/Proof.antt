@@ -1,9 +1,11 @@
 -- `flatten_pairs::is_named` meets its contract: what is asked of all literals is asked of those left. Assumes nothing.
 use borrow.Author.Needs.{needs}
 use Prim.Native.Nat.{ℕ, _+_, _≤_}
-use mathlib.Core.Path.{_≡_, sym, ap₂, _∙_}
+use mathlib.Core.Path.{_≡_, sym, ap, ap₂, _∙_}
+use native.Mathlib.Nat.{add-assoc}
 use native.Mathlib.Omega.{arith}
 use denote.Ref.{now}
+use lib.ListN.{getD}
 use Rattle.words.specs.Loops.{many, any}
 use Rattle.words.proofs.Many.{any-here, any-later, any-end}
 use Rattle.chart.specs.View.{Chart, transitionAt, view}
@@ -33,11 +35,10 @@ loop-holds c =
     let start = c .before .before .before in
     let s = start .args in
     let v = view (now (s .t)) in
-    let n = transitionAt (now (s .t)) (s .k) in
-    let behind : n + 3 ≡ n + 2 + 1 = omega arith in
+    let count-word = ap (λ (i : ℕ). getD (now (s .t)) i 0) (sym (add-assoc (transitionAt (now (s .t)) (s .k)) 2 1)) in
     let inside = start .pre .0 .transition-spans (s .k) (start .pre .1) .literals in
-    let first : v .asks (s .k) .first ≡ c .before .transition-word .result = cc in
-    let count : v .asks (s .k) .count ≡ c .transition-word2 .result = cc in (
+    let first = sym (c .before .transition-word .ensures .0) in
+    let count = sym (c .transition-word2 .ensures .0 ∙ count-word) in (
       omega (arith, inside, first, count),
       ap₂ (λ (i n : ℕ). any (mentions v (s .j)) (many (literal v) i n)) first count,
     )

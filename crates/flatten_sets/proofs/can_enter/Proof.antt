@@ -1,14 +1,13 @@
 -- `flatten_sets::can_enter` meets its contract: each branch is one of `mayAt`; an and-state's parent has a smaller number, so it is
 -- a state. Assumes nothing.
 use borrow.Author.Tests.{not-true, not-false}
-use mathlib.Core.Path.{_≡_, sym, _∙_}
-use mathlib.Core.Bool.{true, false}
+use Prim.Native.Nat.{ℕ}
+use mathlib.Core.Path.{sym, ap, _∙_}
 use native.Mathlib.Omega.{arith}
 use denote.Ref.{now}
 use Rattle.chart.specs.View.{view}
 use Rattle.chart_rules.proofs.Readable.{chart-needs}
 use Rattle.states.specs.Cells.{cells}
-use Rattle.chart_meaning.specs.Scope.{scope}
 use Rattle.chart_meaning.specs.Entered.{reached}
 use Rattle.chart_meaning.proofs.Tree.{tree, up-lt}
 use Rattle.flatten_meaning.specs.Flattened.{mayAt}
@@ -30,11 +29,13 @@ is-reached-requires c κs =
 returns-2 : tie.Need-returns-2
 unfolding mayAt
 returns-2 c =
-    let s = c .before .before .before .before .before .args in
+    let start = c .before .before .before .before .before in
+    let s = start .args in
     let v = view (now (s .t)) in
     let and = not-false (c .before .before .before .is-and .result) (c .before .before .if1 .left) in
     let out = not-true (c .before .is-reached .result) (c .if2 .taken) in
-    let not-reached : reached v (scope v (s .k)) (s .j) (cells (s .can)) ≡ false = cc in
+    let by-scope = ap (λ (o : ℕ). reached v o (s .j) (cells (s .can))) (start .pre .3) in
+    let not-reached = sym (c .before .is-reached .ensures ∙ by-scope) ∙ out in
     rw (sym (c .before .before .before .is-and .ensures) ∙ and, not-reached)
 
 can-choose-requires : tie.Need-can-choose-requires
@@ -48,11 +49,13 @@ can-choose-requires c κs =
 returns-3 : tie.Need-returns-3
 unfolding mayAt
 returns-3 c =
-    let s = c .before .before .before .before .before .before .args in
+    let start = c .before .before .before .before .before .before in
+    let s = start .args in
     let v = view (now (s .t)) in
     let and = not-false (c .before .before .before .before .is-and .result) (c .before .before .before .if1 .left) in
     let in-reach = not-false (c .before .before .is-reached .result) (c .before .if2 .left) in
-    let is-reached : reached v (scope v (s .k)) (s .j) (cells (s .can)) ≡ true = cc in
+    let by-scope = ap (λ (o : ℕ). reached v o (s .j) (cells (s .can))) (start .pre .3) in
+    let is-reached = sym (c .before .before .is-reached .ensures ∙ by-scope) ∙ in-reach in
     rw (sym (c .before .before .before .before .is-and .ensures) ∙ and, is-reached) (c .can-choose .ensures)
 
 pub can-enter-spec : {M : Type 1} → statement M

@@ -2,10 +2,11 @@
 -- and-state, so its parent is a state. Assumes nothing.
 use borrow.Author.Needs.{needs}
 use borrow.Author.Tests.{not-true, not-false}
-use Prim.Native.Nat.{_+_}
-use mathlib.Core.Path.{_≡_, sym, _∙_}
-use native.Mathlib.Omega.{arith}
+use Prim.Native.Nat.{ℕ}
+use mathlib.Core.Path.{sym, ap, _∙_}
+use native.Mathlib.Nat.{add-assoc}
 use denote.Ref.{now}
+use lib.ListN.{getD}
 use Rattle.chart.specs.View.{stateAt, view}
 use Rattle.chart_rules.proofs.Readable.{chart-needs}
 use Rattle.chart_meaning.proofs.Tree.{tree}
@@ -45,12 +46,11 @@ returns-3 : tie.Need-returns-3
 unfolding comes
 returns-3 c =
     let s = c .before .before .before .before .before .before .args in
-    let n = stateAt (now (s .t)) (s .j) in
-    let behind : n + 6 ≡ n + 5 + 1 = omega arith in
+    let count-word = ap (λ (i : ℕ). getD (now (s .t)) i 0) (sym (add-assoc (stateAt (now (s .t)) (s .j)) 5 1)) in
     let has = c .before .before .before .before .has in
     let told = has .ensures ∙ c .before .before .before .before .before .before .pre .3 in
     let free = c .before .before .is-decided in
-    let count : c .state-word .result ≡ view (now (s .t)) .entries (s .j) .count = cc in
+    let count = c .state-word .ensures .0 ∙ count-word in
     rw (
       sym told ∙ not-false (has .result) (c .before .before .before .if1 .left),
       sym (free .ensures) ∙ not-false (free .result) (c .before .if2 .left),
