@@ -15,7 +15,7 @@ use Rattle.flat_microstep.specs.Stretch.{has?}
 
 module _ (p : ℕ → Bool) (k : ℕ) where
   -- one number more is skipped
-  pub skip : (j r : ℕ) → r ≡ j + 1 → None p k j → p j ≡ false → None p k r
+  skip : (j r : ℕ) → r ≡ j + 1 → None p k j → p j ≡ false → None p k r
   skip j r e none fails i h l = last-or i j (omega arith) (none i h) (λ q. ap p q ∙ fails)
 
   pub skip-one : (j : ℕ) → None p k j → p j ≡ false → None p k (j + 1)

@@ -20,7 +20,8 @@ returns c =
     let p = c .before .before .before .before .before in
     let s = p .args in
     c .literal-of .ensures
-    ∙ read (now (s .t)) (s .i) (s .at) _ _ _ (p .pre .2) (c .before .before .before .word-in .ensures) (c .before .before .word-in2 .ensures) (c .before .word-in3 .ensures)
+    ∙ read (now (s .t)) (s .i) (s .at) _ _ _ (p .pre .2) (c .before .before .before .word-in .ensures)
+    (c .before .before .word-in2 .ensures) (c .before .word-in3 .ensures)
 
 pub literal-at-spec : {M : Type 1} → statement M
 literal-at-spec =

@@ -34,7 +34,8 @@ returns c =
     let read = ap (ofMachine? f m) (c .before .before .number .ensures .0) in
     let bad = sym (is .ensures ∙ read) ∙ not-true (is .result) (c .if1 .taken) in
     sym (allBelow-no (goodFlatWord? f (now (s .current))) (f .machines) m
-    (lt-of-lt-of-le (c .before .before .before .loop-test .taken) (le-of-eq (c .before .before .before .before .before .head .ensures .0))) bad)
+    (lt-of-lt-of-le (c .before .before .before .loop-test .taken)
+    (le-of-eq (c .before .before .before .before .before .head .ensures .0))) bad)
 
 loop-again : tie.Need-loop-again Inv-loop μ-loop
 unfolding goodFlatWord?
@@ -58,6 +59,9 @@ pub good-words-spec : {M : Type 1} → statement M
 good-words-spec =
     tie.close
     (tie.spec
-    Inv-loop μ-loop (λ c κs. (flat-readable (c .before .before .pre), lit< tt)) loop-holds (λ c κs. tt) (λ c κs. flat-readable (c .before .before .before .before .before .before .pre)) returns
-    (λ c. next-fits _ _ (c .before .before .before .loop-test .taken) (c .before .before .before .before .before .head .ensures .1)) (λ c. less-left _ _ (c .before .before .before .loop-test .taken)) loop-again
+    Inv-loop μ-loop (λ c κs. (flat-readable (c .before .before .pre), lit< tt)) loop-holds (λ c κs. tt)
+    (λ c κs. flat-readable (c .before .before .before .before .before .before .pre)) returns
+    (λ c. next-fits _ _ (c .before .before .before .loop-test .taken)
+    (c .before .before .before .before .before .head .ensures .1))
+    (λ c. less-left _ _ (c .before .before .before .loop-test .taken)) loop-again
     returns-2)

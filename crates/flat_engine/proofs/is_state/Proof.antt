@@ -34,7 +34,8 @@ returns-2 c =
     let s = c .before .before .before .before .before .before .before .args in
     let f = flatView (now (s .t)) in
     let state = now (s .state) in
-    let long = c .before .before .if1 .left ∙ ap₂ _+_ (c .before .before .before .before .head .ensures .0) (c .before .before .before .head2 .ensures .0) in
+    let long = c .before .before .if1 .left ∙ ap₂ _+_ (c .before .before .before .before .head .ensures .0)
+    (c .before .before .before .head2 .ensures .0) in
     rw (eqb-yes long)
     (c .good-words .ensures
     ∙ ap (λ (k : ℕ). allBelow (goodFlatWord? f (take k state)) (f .machines)) (c .before .before .before .before .head .ensures .0))
@@ -44,5 +45,6 @@ is-state-spec =
     tie.close
     (tie.spec
     (λ c κs. (flat-readable (c .before .before .pre), lit< tt)) (λ c κs. (flat-readable (c .before .before .before .pre), lit< tt))
-    (λ c. sum-fits _ _ (c .before .head .ensures .1) (c .head2 .ensures .1)) returns slice-aggregate-good-words (λ c κs. c .before .before .before .before .before .before .pre)
+    (λ c. sum-fits _ _ (c .before .head .ensures .1) (c .head2 .ensures .1)) returns slice-aggregate-good-words
+    (λ c κs. c .before .before .before .before .before .before .pre)
     returns-2)

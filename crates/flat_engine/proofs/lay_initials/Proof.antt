@@ -29,7 +29,8 @@ loop-again c =
     let l = c .before .before .before .before .before .before .loop in (
       next-in _ _ (c .before .before .before .before .before .loop-test .taken),
       lay-next (f .initial) (now (s .state)) (l .m) _ (l .state) _
-          (lt-of-lt-of-le (c .before .before .before .before .before .loop-test .taken) (le-trans (le-of-eq (c .before .before .before .before .before .before .before .head .ensures .0)) (start .pre .1)))
+          (lt-of-lt-of-le (c .before .before .before .before .before .loop-test .taken)
+          (le-trans (le-of-eq (c .before .before .before .before .before .before .before .head .ensures .0)) (start .pre .1)))
           (c .before .before .before .initial-of .ensures .0) (l .inv .1) (c .before .before .put .ensures),
     )
 
@@ -55,7 +56,12 @@ lay-initials-spec =
     tie.close
     (tie.spec
     Inv-loop μ-loop (λ c κs. (flat-readable (c .before .before .pre .0), lit< tt)) loop-holds
-    (λ c κs. (flat-readable (c .before .before .before .before .before .before .pre .0), lt-of-lt-of-le (c .before .loop-test .taken) (le-of-eq (c .before .before .before .head .ensures .0))))
+    (λ c κs. (
+      flat-readable (c .before .before .before .before .before .before .pre .0),
+      lt-of-lt-of-le (c .before .loop-test .taken) (le-of-eq (c .before .before .before .head .ensures .0)),
+    ))
     (λ c. record { fits = c .initial-of .ensures .1 }) (λ c κs. tt)
-    (λ c. next-fits _ _ (c .before .before .before .before .before .loop-test .taken) (c .before .before .before .before .before .before .before .head .ensures .1)) (λ c. less-left _ _ (c .before .before .before .before .before .loop-test .taken)) loop-again
+    (λ c. next-fits _ _ (c .before .before .before .before .before .loop-test .taken)
+    (c .before .before .before .before .before .before .before .head .ensures .1))
+    (λ c. less-left _ _ (c .before .before .before .before .before .loop-test .taken)) loop-again
     same-length returns)

@@ -34,7 +34,9 @@ returns-2 c =
 slice-aggregate-run-state : tie.Need-slice-aggregate-run-state
 slice-aggregate-run-state c =
     let g = c .before .head2 in
-    sym (length-take-le (g .result / 16 + 1) (zeros 147) (bits-in _ _ (g .ensures .0) (c .before .before .before .before .before .before .before .before .before .before .before .pre .counts .guards .1)))
+    sym (length-take-le (g .result / 16 + 1) (zeros 147)
+    (bits-in _ _ (g .ensures .0) (c .before .before .before .before .before .before .before .before .before .before .before .pre
+    .counts .guards .1)))
 
 run-state-requires : tie.Need-run-state-requires
 run-state-requires c κs =
@@ -55,13 +57,19 @@ returns-3 c =
     c .before .before .before .before .before .run-state .ensures
     ∙ sym (good-call (flatView (now (s .t))) (now (s .state)) (s .event) (now (s .outputs))
     (sym (good .ensures) ∙ not-false (good .result) (c .before .before .before .before .before .before .before .before .before .before .before .before .before .if1 .left))
-    (lt-of-le-of-lt (le-of-eq (sym (c .before .before .before .before .before .before .before .before .before .before .before .wide .ensures .0))) (lt-of-lt-of-le (c .before .before .before .before .before .before .before .before .before .before .if2 .left) (le-of-eq (c .before .before .before .before .before .before .before .before .before .before .before .before .head .ensures .0)))))
+    (lt-of-le-of-lt (le-of-eq (sym (c .before .before .before .before .before .before .before .before .before .before .before
+    .wide .ensures .0))) (lt-of-lt-of-le (c .before .before .before .before .before .before .before .before .before .before .if2
+    .left) (le-of-eq (c .before .before .before .before .before .before .before .before .before .before .before .before .head
+    .ensures .0)))))
 
 pub run-accepted-spec : {M : Type 1} → statement M
 run-accepted-spec =
     tie.close
     (tie.spec
-    (λ c κs. c .before .before .before .before .pre) (λ c. refl) returns (λ c κs. (flat-readable (c .before .before .before .before .before .before .pre), lit< tt)) (λ c κs. tt) (λ c. refl) returns-2
-    (λ c κs. (flat-readable (c .before .before .before .before .before .before .before .before .before .pre), lit< tt)) (λ c. bits-fit _ (c .head2 .ensures .1))
-    (λ c. bits-in _ _ (c .head2 .ensures .0) (c .before .before .before .before .before .before .before .before .before .before .pre .counts .guards .1)) slice-aggregate-run-state run-state-requires
+    (λ c κs. c .before .before .before .before .pre) (λ c. refl) returns
+    (λ c κs. (flat-readable (c .before .before .before .before .before .before .pre), lit< tt)) (λ c κs. tt) (λ c. refl) returns-2
+    (λ c κs. (flat-readable (c .before .before .before .before .before .before .before .before .before .pre), lit< tt))
+    (λ c. bits-fit _ (c .head2 .ensures .1))
+    (λ c. bits-in _ _ (c .head2 .ensures .0) (c .before .before .before .before .before .before .before .before .before .before
+    .pre .counts .guards .1)) slice-aggregate-run-state run-state-requires
     (λ c. c .before .before .before .state .given) (λ c. c .before .outputs .given) returns-3)

@@ -47,6 +47,10 @@ pub run-state-spec : {M : Type 1} → statement M
 run-state-spec =
     tie.close
     (tie.spec
-    (λ c κs. (flat-readable (c .before .before .before .before .pre .0), lit< tt)) run-requires (λ c κs. tt) (λ c κs. tt) (λ c. c .before .before .before .before .before .before .before .before .marks .given)
-    (λ c. c .before .before .before .before .before .before .state .given) (λ c. c .before .before .before .before .outputs .given) returns (λ c κs. tt) (λ c. c .before .before .before .before .before .before .before .before .marks .given) (λ c. c .before .before .before .before .before .before .state .given)
+    (λ c κs. (flat-readable (c .before .before .before .before .pre .0), lit< tt)) run-requires (λ c κs. tt) (λ c κs. tt)
+    (λ c. c .before .before .before .before .before .before .before .before .marks .given)
+    (λ c. c .before .before .before .before .before .before .state .given)
+    (λ c. c .before .before .before .before .outputs .given) returns (λ c κs. tt)
+    (λ c. c .before .before .before .before .before .before .before .before .marks .given)
+    (λ c. c .before .before .before .before .before .before .state .given)
     (λ c. c .before .before .before .before .outputs .given) returns-2)

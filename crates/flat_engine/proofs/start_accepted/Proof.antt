@@ -43,12 +43,15 @@ returns c =
     rw (eqb-no other) refl
 
 lay-initials-requires : tie.Need-lay-initials-requires
-lay-initials-requires c κs =
-    (c .before .before .before .before .before .before .pre, le-trans (le-of-eq (sym (c .before .before .before .head .ensures .0))) (words-in _ _ _ (c .before .if1 .left)))
+lay-initials-requires c κs = (
+  c .before .before .before .before .before .before .pre,
+  le-trans (le-of-eq (sym (c .before .before .before .head .ensures .0))) (words-in _ _ _ (c .before .if1 .left)),
+)
 
 clear-requires : tie.Need-clear-requires
 clear-requires c κs =
-    let few = le-trans (le-of-eq (c .before .before .before .before .before .before .before .head .ensures .0)) (c .before .before .before .before .before .before .before .before .before .before .pre .counts .machines .1) in
+    let few = le-trans (le-of-eq (c .before .before .before .before .before .before .before .head .ensures .0))
+    (c .before .before .before .before .before .before .before .before .before .before .pre .counts .machines .1) in
     (le-trans few (lit≤ tt), words-in _ _ _ (c .before .before .state .given ∙ c .before .before .before .before .before .if1 .left))
 
 returns-2 : tie.Need-returns-2

@@ -11,10 +11,14 @@ use Rattle.flat_guards.proofs.ask.Tie as tie
 
 -- there is a mark for the guard
 add-requires : tie.Need-add-requires
-add-requires c κs = held-below _ _ _ (c .wide .ensures .0) _ (c .before .before .before .before .before .before .pre) (c .before .before .before .literal .given .1)
+add-requires c κs =
+    held-below _ _ _ (c .wide .ensures .0) _ (c .before .before .before .before .before .before .pre)
+    (c .before .before .before .literal .given .1)
 
 add-requires-2 : tie.Need-add-requires-2
-add-requires-2 c κs = failed-below _ _ _ (c .wide2 .ensures .0) _ (c .before .before .before .before .before .before .pre) (c .before .before .before .literal2 .given .1)
+add-requires-2 c κs =
+    failed-below _ _ _ (c .wide2 .ensures .0) _ (c .before .before .before .before .before .before .pre)
+    (c .before .before .before .literal2 .given .1)
 
 returns-5 : tie.Need-returns-5
 unfolding asking

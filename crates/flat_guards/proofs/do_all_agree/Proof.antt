@@ -9,7 +9,8 @@ use Rattle.flat_rules.proofs.Readable.{flat-readable}
 use Rattle.marks.specs.Bits.{marked}
 use Rattle.flat_guards.specs.Parts.{agrees, allAgree}
 use Rattle.flat_guards.proofs.Room.{room, first-in, thrice-fits, place-fits, one-less}
-use Rattle.flat_guards.proofs.Spans.{Walk, walk-start, walk-end, walk-next-fits, walk-reads, walk-place-fits, walk-smaller, walk-bad, walk-good}
+use Rattle.flat_guards.proofs.Spans.{Walk, walk-start, walk-end, walk-next-fits, walk-reads, walk-place-fits}
+use Rattle.flat_guards.proofs.Spans.{walk-smaller, walk-bad, walk-good}
 use Rattle.flat_guards.proofs.do_all_agree.Statement.{statement}
 use Rattle.flat_guards.proofs.do_all_agree.Tie as tie
 
@@ -24,7 +25,8 @@ loop-holds c =
     let first = c .before .before .number-in .ensures in
     let left = c .number-in2 .ensures in
     let s = c .before .before .before .before .before .before .args in
-    walk-start (now (s .t)) (s .k) (c .before .before .before .guard-at .ensures .0) (first .0) (c .before .head .ensures .0) (left .0) (first .1) (left .1)
+    walk-start (now (s .t)) (s .k) (c .before .before .before .guard-at .ensures .0) (first .0) (c .before .head .ensures .0)
+    (left .0) (first .1) (left .1)
 
 literal-at-requires : tie.Need-literal-at-requires Inv-loop μ-loop
 literal-at-requires c κs =
@@ -41,7 +43,8 @@ does-agree-requires c κs =
 add-place-2 : tie.Need-add-place-2 Inv-loop μ-loop
 add-place-2 c =
     let p = c .before .before .before .before .before .before .before .before .before .before .before in
-    walk-place-fits (c .before .before .before .before .loop .inv) (c .before .before .before .loop-test .taken) (p .pre .0) (p .pre .1) (p .good .0 .0)
+    walk-place-fits (c .before .before .before .before .loop .inv) (c .before .before .before .loop-test .taken) (p .pre .0)
+    (p .pre .1) (p .good .0 .0)
 
 returns : tie.Need-returns Inv-loop μ-loop
 unfolding allAgree
@@ -66,9 +69,15 @@ pub do-all-agree-spec : {M : Type 1} → statement M
 do-all-agree-spec =
     tie.close
     (tie.spec
-    Inv-loop μ-loop (λ c κs. (flat-readable (c .before .before .pre .0), c .before .before .pre .1)) (λ c κs. first-in _ _ (c .guard-at .ensures .1))
+    Inv-loop μ-loop (λ c κs. (flat-readable (c .before .before .pre .0), c .before .before .pre .1))
+    (λ c κs. first-in _ _ (c .guard-at .ensures .1))
     (λ c κs. (flat-readable (c .before .before .before .before .pre .0), lit< tt)) (λ c. thrice-fits _ (c .before .number-in .ensures .1))
     (λ c. place-fits _ _ (c .head .ensures .1) (c .before .number-in .ensures .1))
-    (λ c. record { fits = lt-trans (c .before .before .guard-at .ensures .1) (c .before .before .before .before .before .good .0 .0) }) (λ c κs. c .before .before .guard-at .ensures .1)
-    loop-holds literal-at-requires does-agree-requires returns (λ c. walk-next-fits (c .before .before .before .before .loop .inv) (c .before .before .before .loop-test .taken))
-    add-place-2 (λ c. c .before .before .before .loop-test .taken) (λ c. one-less _ (c .before .before .before .loop-test .taken)) loop-again returns-2)
+    (λ c. record {
+      fits = lt-trans (c .before .before .guard-at .ensures .1)
+          (c .before .before .before .before .before .good .0 .0);
+    }) (λ c κs. c .before .before .guard-at .ensures .1)
+    loop-holds literal-at-requires does-agree-requires returns
+    (λ c. walk-next-fits (c .before .before .before .before .loop .inv) (c .before .before .before .loop-test .taken))
+    add-place-2 (λ c. c .before .before .before .loop-test .taken)
+    (λ c. one-less _ (c .before .before .before .loop-test .taken)) loop-again returns-2)

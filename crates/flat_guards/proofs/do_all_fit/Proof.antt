@@ -79,8 +79,10 @@ ask-requires c κs =
 
 add-place-2 : tie.Need-add-place-2 Inv-loop μ-loop
 add-place-2 c =
-    let p = c .before .before .before .before .before .before .before .before .before .before .before .before .before .before .before .before .before in
-    walk-place-fits (c .before .before .before .before .before .before .before .before .loop .inv .0) (c .before .before .before .before .before .before .before .loop-test .taken) (p .pre .0) (p .pre .1) (p .good .0 .0)
+    let p = c .before .before .before .before .before .before .before .before .before .before .before .before .before .before
+    .before .before .before in
+    walk-place-fits (c .before .before .before .before .before .before .before .before .loop .inv .0)
+    (c .before .before .before .before .before .before .before .loop-test .taken) (p .pre .0) (p .pre .1) (p .good .0 .0)
 
 loop-again : tie.Need-loop-again Inv-loop μ-loop
 loop-again c =
@@ -111,10 +113,20 @@ pub do-all-fit-spec : {M : Type 1} → statement M
 do-all-fit-spec =
     tie.close
     (tie.spec
-    Inv-loop μ-loop (λ c κs. (flat-readable (c .before .before .before .before .pre .0), c .before .before .before .before .pre .1)) (λ c κs. first-in _ _ (c .guard-at .ensures .1))
-    (λ c κs. (flat-readable (c .before .before .before .before .before .before .pre .0), lit< tt)) (λ c. thrice-fits _ (c .before .number-in .ensures .1))
+    Inv-loop μ-loop (λ c κs. (
+      flat-readable (c .before .before .before .before .pre .0),
+      c .before .before .before .before .pre .1,
+    )) (λ c κs. first-in _ _ (c .guard-at .ensures .1))
+    (λ c κs. (flat-readable (c .before .before .before .before .before .before .pre .0), lit< tt))
+    (λ c. thrice-fits _ (c .before .number-in .ensures .1))
     (λ c. place-fits _ _ (c .head .ensures .1) (c .before .number-in .ensures .1))
-    (λ c. record { fits = lt-trans (c .before .before .guard-at .ensures .1) (c .before .before .before .before .before .before .before .good .0 .0) }) (λ c κs. c .before .before .guard-at .ensures .1)
+    (λ c. record {
+      fits = lt-trans (c .before .before .guard-at .ensures .1)
+          (c .before .before .before .before .before .before .before .good .0 .0);
+    }) (λ c κs. c .before .before .guard-at .ensures .1)
     loop-holds literal-at-requires does-fit-requires (λ c. c .before .before .before .before .loop .inv .1) returns ask-requires
-    (λ c. walk-next-fits (c .before .before .before .before .before .before .before .before .loop .inv .0) (c .before .before .before .before .before .before .before .loop-test .taken)) add-place-2 (λ c. c .before .before .before .before .before .before .before .loop-test .taken)
-    (λ c. one-less _ (c .before .before .before .before .before .before .before .loop-test .taken)) loop-again (λ c. c .before .loop .inv .1) returns-2)
+    (λ c. walk-next-fits (c .before .before .before .before .before .before .before .before .loop .inv .0)
+    (c .before .before .before .before .before .before .before .loop-test .taken)) add-place-2
+    (λ c. c .before .before .before .before .before .before .before .loop-test .taken)
+    (λ c. one-less _ (c .before .before .before .before .before .before .before .loop-test .taken)) loop-again
+    (λ c. c .before .loop .inv .1) returns-2)

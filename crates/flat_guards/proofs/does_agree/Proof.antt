@@ -9,18 +9,24 @@ use Rattle.flat_guards.proofs.does_agree.Tie as tie
 
 -- there is a mark for the guard
 has-requires : tie.Need-has-requires
-has-requires c κs = held-below _ _ _ (c .wide .ensures .0) _ (c .before .before .before .before .before .pre) (c .before .before .literal .given .1)
+has-requires c κs =
+    held-below _ _ _ (c .wide .ensures .0) _ (c .before .before .before .before .before .pre) (c .before .before .literal .given .1)
 
 has-requires-2 : tie.Need-has-requires-2
-has-requires-2 c κs = failed-below _ _ _ (c .wide2 .ensures .0) _ (c .before .before .before .before .before .pre) (c .before .before .literal2 .given .1)
+has-requires-2 c κs =
+    failed-below _ _ _ (c .wide2 .ensures .0) _ (c .before .before .before .before .before .pre) (c .before .before .literal2 .given .1)
 
 returns-5 : tie.Need-returns-5
 returns-5 c =
-    held-agrees _ _ _ (c .before .wide .ensures .0) (marked (now (c .before .before .before .before .before .before .args .marks))) _ (c .has .ensures) (c .before .before .before .literal .given .1)
+    held-agrees _ _ _ (c .before .wide .ensures .0)
+    (marked (now (c .before .before .before .before .before .before .args .marks))) _ (c .has .ensures)
+    (c .before .before .before .literal .given .1)
 
 returns-6 : tie.Need-returns-6
 returns-6 c =
-    failed-agrees _ _ _ (c .before .wide2 .ensures .0) (marked (now (c .before .before .before .before .before .before .args .marks))) _ (c .has2 .ensures) (c .before .before .before .literal2 .given .1)
+    failed-agrees _ _ _ (c .before .wide2 .ensures .0)
+    (marked (now (c .before .before .before .before .before .before .args .marks))) _ (c .has2 .ensures)
+    (c .before .before .before .literal2 .given .1)
 
 pub does-agree-spec : {M : Type 1} → statement M
 unfolding agrees

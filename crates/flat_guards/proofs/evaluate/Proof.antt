@@ -21,5 +21,10 @@ pub evaluate-spec : {M : Type 1} → statement M
 evaluate-spec =
     tie.close
     (tie.spec
-    (λ c κs. c .before .before .before .before .before .pre) (λ c κs. (c .before .before .before .before .before .before .before .before .before .pre .0, room-kept _ _ _ (c .before .before .before .before .before .before .before .before .before .pre .1) (c .before .before .marks .given)))
+    (λ c κs. c .before .before .before .before .before .pre)
+    (λ c κs. (
+      c .before .before .before .before .before .before .before .before .before .pre .0,
+      room-kept _ _ _ (c .before .before .before .before .before .before .before .before .before .pre .1)
+          (c .before .before .marks .given),
+    ))
     (λ c. c .before .marks2 .given ∙ c .before .before .before .before .before .marks .given) returns)

@@ -21,7 +21,8 @@ returns : tie.Need-returns
 unfolding current?
 returns c =
     let s = c .before .before .before .before .args in
-    ap (λ (w : ℕ). eqb w (s .a)) (c .number-in .ensures .0 ∙ ap (λ (n : ℕ). getD (now (s .current)) n 0) (c .before .machine-of .ensures .0))
+    ap (λ (w : ℕ). eqb w (s .a)) (c .number-in .ensures .0 ∙ ap
+    (λ (n : ℕ). getD (now (s .current)) n 0) (c .before .machine-of .ensures .0))
 
 pub is-current-spec : {M : Type 1} → statement M
 is-current-spec =

@@ -31,10 +31,12 @@ loop-holds c =
     (refl, settled-past f m m 0 _ _ (settled-none f m) (c .next .ensures))
 
 -- in a turn at guard k, it is one of the table, and there is a mark for each
-inside : (c : tie.In-loop Inv-loop μ-loop) → c .before .loop .k < flatView (now (c .before .before .before .before .before .before .before .args .t)) .guards
+inside : (c : tie.In-loop Inv-loop μ-loop) → c .before .loop .k < flatView
+    (now (c .before .before .before .before .before .before .before .args .t)) .guards
 inside c = lt-of-lt-of-le (c .loop-test .taken) (le-of-eq (c .before .before .before .before .head .ensures .0))
 
-room : (c : tie.At-loop Inv-loop μ-loop) → flatView (now (c .before .before .before .before .before .before .args .t)) .guards ≤ 16 * length (c .loop .marks)
+room : (c : tie.At-loop Inv-loop μ-loop) → flatView
+    (now (c .before .before .before .before .before .before .args .t)) .guards ≤ 16 * length (c .loop .marks)
 room c = room-kept _ _ _ (c .before .before .before .before .before .before .pre .1) (c .loop .inv .0)
 
 next-requires-2 : tie.Need-next-requires-2 Inv-loop μ-loop
@@ -65,18 +67,32 @@ loop-again c =
     rw (← agree .ensures)
     (⊎-elim (λ w. rw (w .5 ∙ w .2 .ensures) (tried-goes k (l .marks) b (not-true b (w .0 .taken)) marks))
     (λ w. rw (w .1) (tried-stays k (l .marks) b (not-false b (w .0 .left)))) (if1 .came)) in
-    let next = settled-on f (start .pre .0 .guards) sifted k below _ _ tried (l .inv .1) in
-    (⊎-elim (λ w. ap length (w .5) ∙ w .3 .given ∙ l .inv .0) (λ w. ap length (w .1) ∙ l .inv .0) (if1 .came), settled-past f sifted _ _ _ _ next (c .next2 .ensures))
+    let next = settled-on f (start .pre .0 .guards) sifted k below _ _ tried (l .inv .1) in (
+      ⊎-elim (λ w. ap length (w .5) ∙ w .3 .given ∙ l .inv .0)
+          (λ w. ap length (w .1) ∙ l .inv .0) (if1 .came),
+      settled-past f sifted _ _ _ _ next (c .next2 .ensures),
+    )
 
 returns : tie.Need-returns Inv-loop μ-loop
-returns c j h = c .before .loop .inv .1 .below j (lt-of-lt-of-le h (le-trans (le-of-eq (sym (c .before .before .before .before .head .ensures .0))) (c .loop-test .left)))
+returns c j h =
+    c .before .loop .inv .1 .below j (lt-of-lt-of-le h
+    (le-trans (le-of-eq (sym (c .before .before .before .before .head .ensures .0))) (c .loop-test .left)))
 
 pub settle-spec : {M : Type 1} → statement M
 settle-spec =
     tie.close
     (tie.spec
     Inv-loop μ-loop (λ c κs. (flat-readable (c .before .before .pre .0), lit< tt))
-    (λ c κs. (le-trans (le-of-eq (c .before .head .ensures .0)) (c .before .before .before .before .pre .1), c .before .head .ensures .1)) loop-holds
-    (λ c κs. (c .before .before .before .before .before .before .before .before .pre .0, inside (c .before), room (c .before .before))) (λ c κs. lt-of-lt-of-le (inside (c .before .before .before .before)) (room (c .before .before .before .before .before)))
-    (λ c. next-fits _ _ (c .before .before .before .before .loop-test .taken) (c .before .before .before .before .before .before .before .before .head .ensures .1)) next-requires-2 loop-less loop-again
+    (λ c κs. (
+      le-trans (le-of-eq (c .before .head .ensures .0)) (c .before .before .before .before .pre .1),
+      c .before .head .ensures .1,
+    )) loop-holds
+    (λ c κs. (
+      c .before .before .before .before .before .before .before .before .pre .0,
+      inside (c .before),
+      room (c .before .before),
+    )) (λ c κs. lt-of-lt-of-le (inside (c .before .before .before .before))
+    (room (c .before .before .before .before .before)))
+    (λ c. next-fits _ _ (c .before .before .before .before .loop-test .taken)
+    (c .before .before .before .before .before .before .before .before .head .ensures .1)) next-requires-2 loop-less loop-again
     (λ c. c .before .loop .inv .0) returns)

@@ -35,26 +35,38 @@ loop-holds c =
     (e .up-to, refl, gone-past f words vars m m _ _ (gone-none f words vars m) e)
 
 -- in a turn, guard k - 1 is one of the table, and there is a mark for each
-inside : (c : tie.In-loop Inv-loop μ-loop) → c .before .loop .k - 1 < flatView (now (c .before .before .before .before .before .before .before .before .before .args .t)) .guards
+inside : (c : tie.In-loop Inv-loop μ-loop) → c .before .loop .k - 1 < flatView
+    (now (c .before .before .before .before .before .before .before .before .before .args .t)) .guards
 inside c = less-one-in _ _ (c .loop-test .taken) (c .before .loop .inv .0)
 
-room : (c : tie.At-loop Inv-loop μ-loop) → flatView (now (c .before .before .before .before .before .before .before .before .args .t)) .guards ≤ 16 * length (c .loop .marks)
+room : (c : tie.At-loop Inv-loop μ-loop) → flatView
+    (now (c .before .before .before .before .before .before .before .before .args .t)) .guards ≤ 16 * length (c .loop .marks)
 room c = room-kept _ _ _ (c .before .before .before .before .before .before .before .before .pre .1) (c .loop .inv .1)
 
 do-all-fit-requires : tie.Need-do-all-fit-requires Inv-loop μ-loop
-do-all-fit-requires c κs = (c .before .before .before .before .before .before .before .before .before .before .pre .0, inside (c .before), room (c .before .before), c .before .before .before .before .before .before .before .before .before .before .pre .2)
+do-all-fit-requires c κs = (
+  c .before .before .before .before .before .before .before .before .before .before .pre .0,
+  inside (c .before),
+  room (c .before .before),
+  c .before .before .before .before .before .before .before .before .before .before .pre .2,
+)
 
 remove-requires : tie.Need-remove-requires Inv-loop μ-loop
-remove-requires c κs = lt-of-lt-of-le (inside (c .before .before .before .before .before .before)) (room-kept _ _ _ (room (c .before .before .before .before .before .before .before)) (c .before .before .before .marks .given))
+remove-requires c κs =
+    lt-of-lt-of-le (inside (c .before .before .before .before .before .before))
+    (room-kept _ _ _ (room (c .before .before .before .before .before .before .before)) (c .before .before .before .marks .given))
 
 last-requires-2 : tie.Need-last-requires-2 Inv-loop μ-loop
 last-requires-2 c κs =
     let same = c .before .before .before .marks .given in
     let long = ⊎-elim (λ w. ap length (w .5) ∙ w .3 .given ∙ same) (λ w. ap length (w .1) ∙ same) (c .before .if1 .came) in
-    le-trans (le-of-lt (inside (c .before .before .before .before .before .before))) (room-kept _ (length (c .before .before .before .before .before .before .before .loop .marks)) _ (room (c .before .before .before .before .before .before .before)) long)
+    le-trans (le-of-lt (inside (c .before .before .before .before .before .before)))
+    (room-kept _ (length (c .before .before .before .before .before .before .before .loop .marks)) _
+    (room (c .before .before .before .before .before .before .before)) long)
 
 loop-less : tie.Need-loop-less Inv-loop μ-loop
-loop-less c = lt-of-le-of-lt (c .last2 .ensures .up-to) (one-less _ (c .before .before .before .before .before .before .before .loop-test .taken))
+loop-less c =
+    lt-of-le-of-lt (c .last2 .ensures .up-to) (one-less _ (c .before .before .before .before .before .before .before .loop-test .taken))
 
 loop-again : tie.Need-loop-again Inv-loop μ-loop
 loop-again c =
@@ -103,5 +115,6 @@ sift-spec =
     tie.close
     (tie.spec
     Inv-loop μ-loop (λ c κs. (flat-readable (c .before .before .before .before .before .pre .0), lit< tt))
-    (λ c κs. le-trans (le-of-eq (c .head .ensures .0)) (c .before .before .before .before .before .before .pre .1)) loop-holds (λ c. c .loop-test .taken) do-all-fit-requires
+    (λ c κs. le-trans (le-of-eq (c .head .ensures .0)) (c .before .before .before .before .before .before .pre .1)) loop-holds
+    (λ c. c .loop-test .taken) do-all-fit-requires
     remove-requires last-requires-2 loop-less loop-again (λ c. c .before .loop .inv .1) returns)

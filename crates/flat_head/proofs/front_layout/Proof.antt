@@ -18,6 +18,8 @@ front-layout-spec =
     tie.close
     (tie.spec
     (λ c κs. lt-of-lt-of-le (lit< tt) (c .before .pre))
-    (λ c κs. let h = c .before .before .pre in (lt-of-lt-of-le (lit< tt) h, lt-of-lt-of-le (lit< tt) h, lit< tt, lt-of-lt-of-le (lit< tt) h))
-    (λ c κs. let h = c .before .before .before .pre in (lt-of-lt-of-le (lit< tt) h, lt-of-lt-of-le (lit< tt) h, lit< tt, lt-of-lt-of-le (lit< tt) h))
+    (λ c κs. let h = c .before .before .pre in
+    (lt-of-lt-of-le (lit< tt) h, lt-of-lt-of-le (lit< tt) h, lit< tt, lt-of-lt-of-le (lit< tt) h))
+    (λ c κs. let h = c .before .before .before .pre in
+    (lt-of-lt-of-le (lit< tt) h, lt-of-lt-of-le (lit< tt) h, lit< tt, lt-of-lt-of-le (lit< tt) h))
     (λ c κs. tt) (λ c κs. tt) returns)

@@ -9,7 +9,8 @@ returns : tie.Need-returns
 unfolding goodFlatCounts?
 returns c =
     c .both2 .ensures
-    ∙ ap₂ _&&_ (c .before .before .before .before .state-counts .ensures) (c .before .both .ensures ∙ ap₂ _&&_ (c .before .before .before .name-counts .ensures) (c .before .before .list-counts .ensures))
+    ∙ ap₂ _&&_ (c .before .before .before .before .state-counts .ensures)
+    (c .before .both .ensures ∙ ap₂ _&&_ (c .before .before .before .name-counts .ensures) (c .before .before .list-counts .ensures))
 
 pub good-counts-spec : {M : Type 1} → statement M
 good-counts-spec =

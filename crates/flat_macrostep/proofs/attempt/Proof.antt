@@ -41,6 +41,16 @@ attempt-spec =
     tie.close
     (tie.spec
     (λ c κs. (zero-le, words-from-0 _ _ _ (c .before .before .before .before .before .before .before .before .pre .1 .state-long)))
-    (λ c κs. (few-words _ _ (c .before .before .before .before .before .before .before .before .before .before .before .before .pre .1 .few) (c .before .before .next .given), vars-behind _ _ _ (c .before .before .before .before .before .before .before .before .before .before .before .before .pre .1 .state-long) _ (c .before .before .next .given)))
-    (λ c κs. tt) go-requires (λ c. c .before .before .before .before .before .before .before .before .before .marks .given) (λ c. c .before .before .before .before .before .before .before .next2 .given ∙ c .before .before .before .before .before .before .before .before .before .before .before .before .before .before .before .before .before .before .before .before .before .before .next .given)
-    (λ c. c .before .before .before .before .before .vars2 .given ∙ c .before .before .before .before .before .before .before .before .before .before .before .before .before .before .before .before .before .before .vars .given) (λ c. c .before .before .before .outs .given) (λ c. c .before .queue .given) returns)
+    (λ c κs. (
+      few-words _ _ (c .before .before .before .before .before .before .before .before .before .before .before .before
+          .pre .1 .few) (c .before .before .next .given),
+      vars-behind _ _ _ (c .before .before .before .before .before .before .before .before .before .before .before .before .pre .1
+          .state-long) _ (c .before .before .next .given),
+    ))
+    (λ c κs. tt) go-requires (λ c. c .before .before .before .before .before .before .before .before .before .marks .given)
+    (λ c. c .before .before .before .before .before .before .before .next2 .given
+    ∙ c .before .before .before .before .before .before .before .before .before .before .before .before .before .before .before
+    .before .before .before .before .before .before .before .next .given)
+    (λ c. c .before .before .before .before .before .vars2 .given
+    ∙ c .before .before .before .before .before .before .before .before .before .before .before .before .before .before .before
+    .before .before .before .vars .given) (λ c. c .before .before .before .outs .given) (λ c. c .before .queue .given) returns)

@@ -74,8 +74,24 @@ go-spec =
     tie.close
     (tie.spec
     Inv-loop μ-loop word-in-requires loop-holds run-requires (λ c κs. tt) (λ c κs. tt)
-    (λ c. c .before .before .before .before .before .before .before .before .before .before .before .before .marks .given ∙ c .before .before .before .before .before .before .before .before .before .before .before .before .before .before .before .before .before .before .before .before .loop .inv .0) (λ c. c .before .before .before .before .before .before .before .before .before .before .next .given ∙ c .before .before .before .before .before .before .before .before .before .before .before .before .before .before .before .before .before .before .before .before .loop .inv .1)
-    (λ c. c .before .before .before .before .before .before .before .before .vars .given ∙ c .before .before .before .before .before .before .before .before .before .before .before .before .before .before .before .before .before .before .before .before .loop .inv .2) (λ c. c .before .before .before .before .before .before .outs .given ∙ c .before .before .before .before .before .before .before .before .before .before .before .before .before .before .before .before .before .before .before .before .loop .inv .3)
-    (λ c. c .before .before .before .before .queue .given ∙ c .before .before .before .before .before .before .before .before .before .before .before .before .before .before .before .before .before .before .before .before .loop .inv .4) returns (λ c κs. tt) (λ c κs. tt) (λ c. c .before .before .before .before .before .before .before .before .before .before .before .before .before .before .before .before .before .before .before .before .before .before .loop-test .taken)
-    (λ c. one-less _ (c .before .before .before .before .before .before .before .before .before .before .before .before .before .before .before .before .before .before .before .before .before .before .loop-test .taken)) loop-again (λ c κs. tt) (λ c. c .before .before .loop .inv .0) (λ c. c .before .before .loop .inv .1)
+    (λ c. c .before .before .before .before .before .before .before .before .before .before .before .before .marks .given
+    ∙ c .before .before .before .before .before .before .before .before .before .before .before .before .before .before .before
+    .before .before .before .before .before .loop .inv .0)
+    (λ c. c .before .before .before .before .before .before .before .before .before .before .next .given
+    ∙ c .before .before .before .before .before .before .before .before .before .before .before .before .before .before .before
+    .before .before .before .before .before .loop .inv .1)
+    (λ c. c .before .before .before .before .before .before .before .before .vars .given
+    ∙ c .before .before .before .before .before .before .before .before .before .before .before .before .before .before .before
+    .before .before .before .before .before .loop .inv .2)
+    (λ c. c .before .before .before .before .before .before .outs .given
+    ∙ c .before .before .before .before .before .before .before .before .before .before .before .before .before .before .before
+    .before .before .before .before .before .loop .inv .3)
+    (λ c. c .before .before .before .before .queue .given
+    ∙ c .before .before .before .before .before .before .before .before .before .before .before .before .before .before .before
+    .before .before .before .before .before .loop .inv .4) returns (λ c κs. tt) (λ c κs. tt)
+    (λ c. c .before .before .before .before .before .before .before .before .before .before .before .before .before .before
+    .before .before .before .before .before .before .before .before .loop-test .taken)
+    (λ c. one-less _ (c .before .before .before .before .before .before .before .before .before .before .before .before .before
+    .before .before .before .before .before .before .before .before .before .loop-test .taken)) loop-again (λ c κs. tt)
+    (λ c. c .before .before .loop .inv .0) (λ c. c .before .before .loop .inv .1)
     (λ c. c .before .before .loop .inv .2) (λ c. c .before .before .loop .inv .3) (λ c. c .before .before .loop .inv .4) returns-2)

@@ -52,7 +52,9 @@ loop-holds c = (refl, refl, refl, refl, refl, untried refl)
 
 -- the outputs are as they were, and what is lent of them is there
 lent-in : (c : tie.At-loop Inv-loop μ-loop) → c .loop .lent ≤ length (c .loop .outputs)
-lent-in c = le-trans (before-fits (c .before .before .before .before .before .before .before .before .before .before .before .before .before .before .before .pre .2) (c .loop .inv .5)) (le-of-eq (sym (ap length (c .loop .inv .4))))
+lent-in c =
+    le-trans (before-fits (c .before .before .before .before .before .before .before .before .before .before .before .before
+    .before .before .before .pre .2) (c .loop .inv .5)) (le-of-eq (sym (ap length (c .loop .inv .4))))
 
 attempt-requires : tie.Need-attempt-requires Inv-loop μ-loop
 attempt-requires c κs =
@@ -90,16 +92,35 @@ returns c =
 -- so is what is kept of them
 slice-relend-prefix-load : tie.Need-slice-relend-prefix-load Inv-loop μ-loop
 slice-relend-prefix-load c =
-    le-trans (c .before .before .before .before .before .before .before .before .before .before .before .before .before .before .before .before .before .before .before .before .before .before .before .before .before .before .before .before .before .before .before .before .before .pre .2) (le-of-eq (sym (c .before .before .before .before .before .outputs .given .1 ∙ ap length (c .before .before .before .before .before .before .before .before .before .before .before .before .before .before .before .before .before .before .loop .inv .4))))
+    le-trans (c .before .before .before .before .before .before .before .before .before .before .before .before .before .before
+    .before .before .before .before .before .before .before .before .before .before .before .before .before .before .before
+    .before .before .before .before .pre .2) (le-of-eq
+    (sym (c .before .before .before .before .before .outputs .given .1 ∙ ap length
+    (c .before .before .before .before .before .before .before .before .before .before .before .before .before .before .before
+    .before .before .before .loop .inv .4))))
 
 slice-aggregate-load : tie.Need-slice-aggregate-load Inv-loop μ-loop
 slice-aggregate-load c =
     let told = c .before .before .before .before .before .before in
-    let long = told .outputs .given .1 ∙ ap length (c .before .before .before .before .before .before .before .before .before .before .before .before .before .before .before .before .before .before .before .loop .inv .4) in
-    sym (length-take-le (length (now (c .before .before .before .before .before .before .before .before .before .before .before .before .before .before .before .before .before .before .before .before .before .before .before .before .before .before .before .before .before .before .before .before .before .before .args .kept))) _ (le-trans (c .before .before .before .before .before .before .before .before .before .before .before .before .before .before .before .before .before .before .before .before .before .before .before .before .before .before .before .before .before .before .before .before .before .before .pre .2) (le-of-eq (sym long))))
+    let long = told .outputs .given .1 ∙ ap length
+    (c .before .before .before .before .before .before .before .before .before .before .before .before .before .before .before
+    .before .before .before .before .loop .inv .4) in
+    sym (length-take-le (length (now (c .before .before .before .before .before .before .before .before .before .before .before
+    .before .before .before .before .before .before .before .before .before .before .before .before .before .before .before
+    .before .before .before .before .before .before .before .before .args .kept))) _
+    (le-trans (c .before .before .before .before .before .before .before .before .before .before .before .before .before .before
+    .before .before .before .before .before .before .before .before .before .before .before .before .before .before .before
+    .before .before .before .before .before .pre .2) (le-of-eq (sym long))))
 
 load-requires-2 : tie.Need-load-requires-2 Inv-loop μ-loop
-load-requires-2 c κs = (zero-le, kept-enough (length (now (c .before .before .before .before .before .before .before .before .before .before .before .before .before .before .before .before .before .before .before .before .before .before .before .before .before .before .before .before .before .before .before .before .before .before .before .args .kept))) _ _ (c .before .before .before .before .before .before .before .before .before .before .before .before .before .before .before .before .before .before .before .before .before .before .kept .given))
+load-requires-2 c κs = (
+  zero-le,
+  kept-enough (length (now (c .before .before .before .before .before .before .before .before .before .before .before
+      .before .before .before .before .before .before .before .before .before .before .before .before .before .before .before
+      .before .before .before .before .before .before .before .before .before .args .kept))) _ _
+      (c .before .before .before .before .before .before .before .before .before .before .before .before .before .before .before
+      .before .before .before .before .before .before .before .kept .given),
+)
 
 same-length-8 : tie.Need-same-length-8 Inv-loop μ-loop
 same-length-8 c = c .before .before .before .outputs2 .given .1 ∙ c .before .before .before .before .before .before .before .before .before .before .before .before .outputs .given .1 ∙ ap length (c .before .before .before .before .before .before .before .before .before .before .before .before .before .before .before .before .before .before .before .before .before .before .before .before .before .loop .inv .4)
@@ -161,11 +182,41 @@ pub pass-spec : {M : Type 1} → statement M
 pass-spec =
     tie.close
     (tie.spec
-    Inv-loop μ-loop (λ c κs. tt) (λ c κs. (zero-le, from-0 _ _ (c .before .before .before .before .before .before .before .before .before .before .before .pre .2))) loop-holds (λ c. lent-in (c .before .before .before))
-    (λ c. sym (length-take-le (c .before .before .before .before .loop .lent) (c .before .before .before .before .loop .outputs) (lent-in (c .before .before .before .before)))) attempt-requires (λ c κs. tt)
-    (λ c. c .before .before .before .before .before .before .before .before .before .before .before .marks .given ∙ c .before .before .before .before .before .before .before .before .before .before .before .before .before .before .before .before .before .before .loop .inv .0) same-length-2 (λ c. c .before .before .before .before .before .before .before .before .before .next .given ∙ c .before .before .before .before .before .before .before .before .before .before .before .before .before .before .before .before .before .before .loop .inv .1)
-    (λ c. c .before .before .before .before .before .before .before .vars .given ∙ c .before .before .before .before .before .before .before .before .before .before .before .before .before .before .before .before .before .before .loop .inv .2) (λ c. c .before .before .before .before .before .before .before .before .before .before .before .before .before .before .before .before .before .before .before .before .kept .given) (λ c. c .before .before .before .queue .given ∙ c .before .before .before .before .before .before .before .before .before .before .before .before .before .before .before .before .before .before .loop .inv .3)
+    Inv-loop μ-loop (λ c κs. tt) (λ c κs. (
+      zero-le,
+      from-0 _ _ (c .before .before .before .before .before .before .before .before .before .before .before .pre .2),
+    )) loop-holds
+    (λ c. lent-in (c .before .before .before))
+    (λ c. sym (length-take-le (c .before .before .before .before .loop .lent) (c .before .before .before .before .loop .outputs)
+    (lent-in (c .before .before .before .before)))) attempt-requires (λ c κs. tt)
+    (λ c. c .before .before .before .before .before .before .before .before .before .before .before .marks .given
+    ∙ c .before .before .before .before .before .before .before .before .before .before .before .before .before .before .before
+    .before .before .before .loop .inv .0) same-length-2
+    (λ c. c .before .before .before .before .before .before .before .before .before .next .given
+    ∙ c .before .before .before .before .before .before .before .before .before .before .before .before .before .before .before
+    .before .before .before .loop .inv .1)
+    (λ c. c .before .before .before .before .before .before .before .vars .given
+    ∙ c .before .before .before .before .before .before .before .before .before .before .before .before .before .before .before
+    .before .before .before .loop .inv .2) (λ c.
+    c .before .before .before .before .before .before .before .before .before .before .before .before .before .before .before
+    .before .before .before .before .before .kept .given)
+    (λ c. c .before .before .before .queue .given
+    ∙ c .before .before .before .before .before .before .before .before .before .before .before .before .before .before .before
+    .before .before .before .loop .inv .3)
     returns slice-relend-prefix-load slice-aggregate-load load-requires-2 (λ c κs. tt)
-    (λ c. c .before .before .before .before .before .before .before .before .before .before .before .before .before .before .before .before .before .before .marks .given ∙ c .before .before .before .before .before .before .before .before .before .before .before .before .before .before .before .before .before .before .before .before .before .before .before .before .before .loop .inv .0) same-length-8 (λ c. c .before .before .before .before .before .before .before .before .before .before .before .before .before .before .before .before .next .given ∙ c .before .before .before .before .before .before .before .before .before .before .before .before .before .before .before .before .before .before .before .before .before .before .before .before .before .loop .inv .1)
-    (λ c. c .before .before .before .before .before .before .before .before .before .before .before .before .before .before .vars .given ∙ c .before .before .before .before .before .before .before .before .before .before .before .before .before .before .before .before .before .before .before .before .before .before .before .before .before .loop .inv .2) (λ c. c .before .before .before .before .before .before .before .before .before .before .before .before .before .before .before .before .before .before .before .before .before .before .before .before .before .before .before .kept .given) (λ c. c .before .before .before .before .before .before .before .before .before .before .queue .given ∙ c .before .before .before .before .before .before .before .before .before .before .before .before .before .before .before .before .before .before .before .before .before .before .before .before .before .loop .inv .3)
+    (λ c. c .before .before .before .before .before .before .before .before .before .before .before .before .before .before
+    .before .before .before .before .marks .given
+    ∙ c .before .before .before .before .before .before .before .before .before .before .before .before .before .before .before
+    .before .before .before .before .before .before .before .before .before .before .loop .inv .0) same-length-8
+    (λ c. c .before .before .before .before .before .before .before .before .before .before .before .before .before .before
+    .before .before .next .given ∙ c .before .before .before .before .before .before .before .before .before .before .before
+    .before .before .before .before .before .before .before .before .before .before .before .before .before .before .loop .inv .1)
+    (λ c. c .before .before .before .before .before .before .before .before .before .before .before .before .before .before .vars
+    .given ∙ c .before .before .before .before .before .before .before .before .before .before .before .before .before .before
+    .before .before .before .before .before .before .before .before .before .before .before .loop .inv .2)
+    (λ c. c .before .before .before .before .before .before .before .before .before .before .before .before .before .before
+    .before .before .before .before .before .before .before .before .before .before .before .before .before .kept .given)
+    (λ c. c .before .before .before .before .before .before .before .before .before .before .queue .given
+    ∙ c .before .before .before .before .before .before .before .before .before .before .before .before .before .before .before
+    .before .before .before .before .before .before .before .before .before .before .loop .inv .3)
     returns-2 loop-less loop-again)

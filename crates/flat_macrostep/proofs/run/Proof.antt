@@ -31,7 +31,8 @@ array-borrow-prefix-vars c = vars-few _ _ (c .before .before .before .before .be
 slice-aggregate-run-on-2 : tie.Need-slice-aggregate-run-on-2
 slice-aggregate-run-on-2 c =
     let s = c .before .before .before .before .before .before .before .before .before .before .args in
-    sym (length-take-le (length (now (s .state)) - s .words) (zeros 16) (vars-few _ _ (c .before .before .before .before .before .before .before .before .before .before .pre .5)))
+    sym (length-take-le (length (now (s .state)) - s .words) (zeros 16)
+    (vars-few _ _ (c .before .before .before .before .before .before .before .before .before .before .pre .5)))
 
 slice-aggregate-run-on-3 : tie.Need-slice-aggregate-run-on-3
 slice-aggregate-run-on-3 c =
@@ -68,6 +69,10 @@ pub run-spec : {M : Type 1} → statement M
 run-spec =
     tie.close
     (tie.spec
-    (λ c. c .before .before .before .before .pre .4) (λ c κs. tt) (λ c. c .before .before .before .before .before .before .before .before .pre .3) slice-aggregate-run-on array-borrow-prefix-vars
-    slice-aggregate-run-on-2 (λ c. c .before .before .before .before .before .first-of .ensures .1) slice-aggregate-run-on-3 (λ c. refl) run-on-requires
-    (λ c. c .before .before .before .before .before .before .before .before .before .marks .given) (λ c. c .before .before .before .before .before .before .before .state .given) (λ c. c .before .before .before .before .before .outputs .given) returns)
+    (λ c. c .before .before .before .before .pre .4) (λ c κs. tt)
+    (λ c. c .before .before .before .before .before .before .before .before .pre .3) slice-aggregate-run-on array-borrow-prefix-vars
+    slice-aggregate-run-on-2 (λ c. c .before .before .before .before .before .first-of .ensures .1) slice-aggregate-run-on-3
+    (λ c. refl) run-on-requires
+    (λ c. c .before .before .before .before .before .before .before .before .before .marks .given)
+    (λ c. c .before .before .before .before .before .before .before .state .given)
+    (λ c. c .before .before .before .before .before .outputs .given) returns)

@@ -42,14 +42,21 @@ returns c =
     stays (now (s .state)) (now (s .outputs)) (c .before .before .before .before .before .before .before .before .before .before .before .before .before .before .pass .result) _ _ _ _ (sym (c .before .is-stopped .ensures) ∙ c .if1 .taken) (c .before .before .before .before .before .before .before .before .before .before .before .before .before .before .pass .ensures)
 
 lay-requires : tie.Need-lay-requires
-lay-requires c κs = words-in _ _ _ (c .before .before .before .before .before .before .before .before .before .before .before .before .before .before .before .before .before .before .before .before .before .before .before .before .before .before .before .before .before .before .before .before .pre .1 .state-long) _ (c .before .before .before .before .before .before .before .before .before .before .before .next .given)
+lay-requires c κs =
+    words-in _ _ _ (c .before .before .before .before .before .before .before .before .before .before .before .before .before
+    .before .before .before .before .before .before .before .before .before .before .before .before .before .before .before
+    .before .before .before .before .pre .1 .state-long) _
+    (c .before .before .before .before .before .before .before .before .before .before .before .next .given)
 
 store-requires : tie.Need-store-requires
 store-requires c κs =
     let sized = c .before .before .before .before .before .before .before .before .before .before .before .before .before .before .before .before .before .before .before .before .before .before .before .before .before .before .before .before .before .before .before .before .before .before .before .before .before .pre .1 in
     let told = c .before .before .before .before .before .before .before .before .before .before .before .before .before .before in
-    let long = told .before .before .next .given in
-    (few-words _ _ (sized .few) long, both-fill _ _ _ (sized .state-long) _ _ _ long (told .vars .given) (c .before .before .before .state .given))
+    let long = told .before .before .next .given in (
+      few-words _ _ (sized .few) long,
+      both-fill _ _ _ (sized .state-long) _ _ _ long (told .vars .given)
+          (c .before .before .before .state .given),
+    )
 
 returns-2 : tie.Need-returns-2
 returns-2 c =
@@ -61,7 +68,22 @@ pub run-on-spec : {M : Type 1} → statement M
 run-on-spec =
     tie.close
     (tie.spec
-    pass-requires (λ c κs. tt) (λ c. c .before .before .before .before .before .before .before .before .before .before .before .before .before .marks .given) (λ c. refl) (λ c. c .before .before .before .before .before .before .before .before .before .before .before .outputs .given) (λ c. c .before .before .before .before .before .before .before .before .before .next .given)
-    (λ c. c .before .before .before .before .before .before .before .vars .given) (λ c. c .before .before .before .before .before .kept .given) (λ c. c .before .before .before .queue .given) returns lay-requires store-requires
-    (λ c. c .before .before .before .before .before .before .before .before .before .before .before .before .before .before .before .before .before .before .before .before .before .before .before .marks .given) (λ c. c .before .state2 .given ∙ c .before .before .before .before .before .before .state .given) (λ c. c .before .before .before .before .before .before .before .before .before .before .before .before .before .before .before .before .before .before .before .before .before .outputs .given)
-    (λ c. c .before .before .before .before .before .before .before .before .before .before .before .before .before .before .before .before .before .before .before .next .given) (λ c. c .before .before .before .before .before .before .before .before .before .before .before .before .before .before .before .before .before .vars .given) (λ c. c .before .before .before .before .before .before .before .before .before .before .before .before .before .before .before .kept .given) (λ c. c .before .before .before .before .before .before .before .before .before .before .before .before .before .queue .given) returns-2)
+    pass-requires (λ c κs. tt) (λ c. c .before .before .before .before .before .before .before .before .before .before .before
+    .before .before .marks .given) (λ c. refl)
+    (λ c. c .before .before .before .before .before .before .before .before .before .before .before .outputs .given)
+    (λ c. c .before .before .before .before .before .before .before .before .before .next .given)
+    (λ c. c .before .before .before .before .before .before .before .vars .given)
+    (λ c. c .before .before .before .before .before .kept .given)
+    (λ c. c .before .before .before .queue .given) returns lay-requires store-requires
+    (λ c. c .before .before .before .before .before .before .before .before .before .before .before .before .before .before
+    .before .before .before .before .before .before .before .before .before .marks .given)
+    (λ c. c .before .state2 .given ∙ c .before .before .before .before .before .before .state .given)
+    (λ c. c .before .before .before .before .before .before .before .before .before .before .before .before .before .before
+    .before .before .before .before .before .before .before .outputs .given)
+    (λ c. c .before .before .before .before .before .before .before .before .before .before .before .before .before .before
+    .before .before .before .before .before .next .given)
+    (λ c. c .before .before .before .before .before .before .before .before .before .before .before .before .before .before
+    .before .before .before .vars .given) (λ c.
+    c .before .before .before .before .before .before .before .before .before .before .before .before .before .before .before
+    .kept .given) (λ c. c .before .before .before .before .before .before .before .before .before .before .before .before .before
+    .queue .given) returns-2)

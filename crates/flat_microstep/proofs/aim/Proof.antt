@@ -14,7 +14,10 @@ add-number-in : tie.Need-add-number-in
 add-number-in c =
     let p = c .before .before in
     let s = p .args in
-    record { fits = lt-trans (rule-in (now (s .t)) (flat-readable (p .pre .0)) (s .k) (p .pre .1) (s .at) 5 (p .pre .2) (lit< tt)) (p .good .0 .0) }
+    record {
+      fits = lt-trans (rule-in (now (s .t)) (flat-readable (p .pre .0)) (s .k) (p .pre .1) (s .at) 5 (p .pre .2) (lit< tt))
+          (p .good .0 .0);
+    }
 
 number-in-requires : tie.Need-number-in-requires
 number-in-requires c κs =

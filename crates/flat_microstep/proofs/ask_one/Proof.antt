@@ -53,7 +53,8 @@ returns c =
     let second = rule-word t (s .k) _ 2 _ (rule .rule-at .ensures .0) (read .number-in2 .ensures .0) in
     both-marked (flatView t) (s .k) _ _ first second _ _ _
     (first-fits t (p .pre .0) (s .k) (p .pre .1) _ _ first (p .pre .2)) (added .add .ensures)
-    (second-fits t (p .pre .0) (s .k) (p .pre .1) _ _ second (room _ _ _ (c .before .before .before .before .before .before .marks .given) (p .pre .2))) (c .before .before .add2 .ensures)
+    (second-fits t (p .pre .0) (s .k) (p .pre .1) _ _ second
+    (room _ _ _ (c .before .before .before .before .before .before .marks .given) (p .pre .2))) (c .before .before .add2 .ensures)
 
 returns-2 : tie.Need-returns-2
 returns-2 c =

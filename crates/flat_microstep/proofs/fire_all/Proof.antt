@@ -100,5 +100,7 @@ fire-all-spec =
     tie.close
     (tie.spec
     Inv-loop μ-loop loop-holds fire-one-requires
-    (λ c. next-fits _ _ (c .before .before .before .before .before .before .before .before .before .before .before .before .before .loop-test .taken) (c .before .before .before .before .before .before .before .before .before .before .before .before .before .before .before .before .before .before .before .before .before .fits .until)) seek-requires loop-less loop-again
+    (λ c. next-fits _ _ (c .before .before .before .before .before .before .before .before .before .before .before .before .before
+    .loop-test .taken) (c .before .before .before .before .before .before .before .before .before .before .before .before .before
+    .before .before .before .before .before .before .before .before .fits .until)) seek-requires loop-less loop-again
     (λ c. c .before .loop .inv .1) (λ c. c .before .loop .inv .2) (λ c. c .before .loop .inv .3) (λ c. c .before .loop .inv .4) returns)

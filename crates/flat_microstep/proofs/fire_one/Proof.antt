@@ -1,4 +1,5 @@
 -- `flat_microstep::fire_one` meets its contract: what it returns is what its callees say. Assumes nothing.
+use borrow.Author.Needs.{needs}
 use borrow.Author.Tests.{not-true, not-false}
 use Prim.Native.Nat.{ℕ, _+_}
 use native.Mathlib.Nat.{lt-trans}
@@ -55,7 +56,21 @@ pub fire-one-spec : {M : Type 1} → statement M
 fire-one-spec =
     tie.close
     (tie.spec
-    (λ c κs. (flat-readable (c .before .before .before .before .before .before .pre .0), c .before .before .before .before .before .before .pre .1))
-    (λ c κs. (c .before .before .before .before .before .before .before .pre .0, c .before .before .before .before .before .before .before .pre .1, c .rule-at .ensures .0, c .before .before .before .before .before .before .before .pre .2)) returns
-    (λ c κs. (c .before .before .before .before .before .before .before .before .before .before .pre .0, c .before .before .before .before .before .before .before .before .before .before .pre .1, c .before .before .before .rule-at .ensures .0)) add-run-span (λ c κs. tt) run-span-requires
-    (λ c. c .before .before .before .before .before .before .before .before .before .before .before .before .next .given) (λ c. c .before .before .before .before .before .vars .given) (λ c. c .before .before .before .outs .given) (λ c. c .before .queue .given) returns-2)
+    (λ c κs. (
+      flat-readable (c .before .before .before .before .before .before .pre .0),
+      c .before .before .before .before .before .before .pre .1,
+    ))
+    (λ c κs. (
+      c .before .before .before .before .before .before .before .pre .0,
+      c .before .before .before .before .before .before .before .pre .1,
+      c .rule-at .ensures .0,
+      c .before .before .before .before .before .before .before .pre .2,
+    )) returns
+    (λ c κs. (
+      c .before .before .before .before .before .before .before .before .before .before .pre .0,
+      c .before .before .before .before .before .before .before .before .before .before .pre .1,
+      c .before .before .before .rule-at .ensures .0,
+    )) add-run-span (λ c κs. search needs) run-span-requires
+    (λ c. c .before .before .before .before .before .before .before .before .before .before .before .before .next .given)
+    (λ c. c .before .before .before .before .before .vars .given) (λ c. c .before .before .before .outs .given)
+    (λ c. c .before .queue .given) returns-2)

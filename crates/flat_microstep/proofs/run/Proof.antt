@@ -77,6 +77,12 @@ run-spec =
     (tie.spec
     (λ c κs. tt) returns (λ c. record { fits = lt-of-le-of-lt (c .if1 .left) (lit< tt) })
     (λ c κs. (flat-readable (c .before .before .before .before .before .before .before .before .pre .0), lit< tt))
-    (λ c κs. (flat-readable (c .before .before .before .before .before .before .before .before .before .pre .0), zero-le, le-of-eq (c .head .ensures .0)))
-    (λ c κs. (zero-le, zero-le)) ask-requires evaluate-requires fire-all-requires same-length (λ c. c .before .before .before .before .before .before .before .next .given)
-    (λ c. c .before .before .before .before .before .vars .given) (λ c. c .before .before .before .outs .given) (λ c. c .before .queue .given) returns-2)
+    (λ c κs. (
+      flat-readable (c .before .before .before .before .before .before .before .before .before .pre .0),
+      zero-le,
+      le-of-eq (c .head .ensures .0),
+    ))
+    (λ c κs. (zero-le, zero-le)) ask-requires evaluate-requires fire-all-requires same-length
+    (λ c. c .before .before .before .before .before .before .before .next .given)
+    (λ c. c .before .before .before .before .before .vars .given) (λ c. c .before .before .before .outs .given)
+    (λ c. c .before .queue .given) returns-2)

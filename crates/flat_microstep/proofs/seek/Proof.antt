@@ -78,19 +78,22 @@ is-for-requires-2 : tie.Need-is-for-requires-2 Inv-loop μ-loop Inv-loop μ-loop
 is-for-requires-2 c κs =
     let p = c .before .before .before .before .before .before in
     let l = c .before .before .before .loop in
-    rules-there (now (p .args .t)) (p .pre .0) (p .args .n) (l .j) (l .at) (p .pre .2) (l .inv .2) 1 (c .before .before .loop-test .taken) (lit≤ tt)
+    rules-there (now (p .args .t)) (p .pre .0) (p .args .n) (l .j) (l .at) (p .pre .2) (l .inv .2) 1
+    (c .before .before .loop-test .taken) (lit≤ tt)
 
 is-for-requires-3 : tie.Need-is-for-requires-3 Inv-loop μ-loop Inv-loop μ-loop
 is-for-requires-3 c κs =
     let p = c .before .before .before .before .before .before .before .before in
     let l = c .before .before .before .before .before .loop in
-    rules-there (now (p .args .t)) (p .pre .0) (p .args .n) (l .j) (l .at) (p .pre .2) (l .inv .2) 2 (c .before .before .before .before .loop-test .taken) (lit≤ tt)
+    rules-there (now (p .args .t)) (p .pre .0) (p .args .n) (l .j) (l .at) (p .pre .2) (l .inv .2) 2
+    (c .before .before .before .before .loop-test .taken) (lit≤ tt)
 
 is-for-requires-4 : tie.Need-is-for-requires-4 Inv-loop μ-loop Inv-loop μ-loop
 is-for-requires-4 c κs =
     let p = c .before .before .before .before .before .before .before .before .before .before in
     let l = c .before .before .before .before .before .before .before .loop in
-    rules-there (now (p .args .t)) (p .pre .0) (p .args .n) (l .j) (l .at) (p .pre .2) (l .inv .2) 3 (c .before .before .before .before .before .before .loop-test .taken) (lit≤ tt)
+    rules-there (now (p .args .t)) (p .pre .0) (p .args .n) (l .j) (l .at) (p .pre .2) (l .inv .2) 3
+    (c .before .before .before .before .before .before .loop-test .taken) (lit≤ tt)
 
 is-for-requires-5 : tie.Need-is-for-requires-5 Inv-loop μ-loop Inv-loop μ-loop
 is-for-requires-5 c κs =
@@ -99,13 +102,21 @@ is-for-requires-5 c κs =
     rule-there (now (p .args .t)) (p .pre .0) (p .args .n) (l .j) (l .at) (p .pre .2) (l .inv .2) (c .loop2-test .taken)
 
 -- rules that are passed over have another trigger
-first-not : (c : tie.Else1 Inv-loop μ-loop Inv-loop μ-loop) → has? (flatView (now (c .before .before .before .before .before .before .args .t))) (c .before .before .before .before .before .before .args .e) (c .before .before .before .loop .j) ≡ false
+first-not : (c : tie.Else1 Inv-loop μ-loop Inv-loop μ-loop) → has?
+    (flatView (now (c .before .before .before .before .before .before .args .t)))
+    (c .before .before .before .before .before .before .args .e) (c .before .before .before .loop .j) ≡ false
 first-not c = sym (c .before .is-for .ensures) ∙ c .if1 .left
 
-second-not : (c : tie.Else2 Inv-loop μ-loop Inv-loop μ-loop) → has? (flatView (now (c .before .before .before .before .before .before .before .before .args .t))) (c .before .before .before .before .before .before .before .before .args .e) (c .before .before .before .before .before .loop .j + 1) ≡ false
+second-not : (c : tie.Else2 Inv-loop μ-loop Inv-loop μ-loop) → has?
+    (flatView (now (c .before .before .before .before .before .before .before .before .args .t)))
+    (c .before .before .before .before .before .before .before .before .args .e)
+    (c .before .before .before .before .before .loop .j + 1) ≡ false
 second-not c = sym (c .before .is-for2 .ensures) ∙ c .if2 .left
 
-third-not : (c : tie.Else3 Inv-loop μ-loop Inv-loop μ-loop) → has? (flatView (now (c .before .before .before .before .before .before .before .before .before .before .args .t))) (c .before .before .before .before .before .before .before .before .before .before .args .e) (c .before .before .before .before .before .before .before .loop .j + 2) ≡ false
+third-not : (c : tie.Else3 Inv-loop μ-loop Inv-loop μ-loop) → has?
+    (flatView (now (c .before .before .before .before .before .before .before .before .before .before .args .t)))
+    (c .before .before .before .before .before .before .before .before .before .before .args .e)
+    (c .before .before .before .before .before .before .before .loop .j + 2) ≡ false
 third-not c = sym (c .before .is-for3 .ensures) ∙ c .if3 .left
 
 returns : tie.Need-returns Inv-loop μ-loop Inv-loop μ-loop
@@ -143,7 +154,8 @@ returns-4 c =
     let l = c .before .before .before .before .before .before .before .before .before .loop in
     let s = c .before .before .before .before .before .before .before .before .before .before .before .before .args in
     let p = has? (flatView (now (s .t))) (s .e) in
-    found-in-turn p (s .k) (s .n) (l .j) 3 (l .inv .0) (c .before .before .before .before .before .before .before .before .loop-test .taken) (lit≤ tt)
+    found-in-turn p (s .k) (s .n) (l .j) 3 (l .inv .0)
+    (c .before .before .before .before .before .before .before .before .loop-test .taken) (lit≤ tt)
     (skip-three p (s .k) (l .j) (l .inv .3) (first-not first) (second-not second) (third-not third))
     (sym (c .before .is-for4 .ensures) ∙ c .if4 .taken)
 
@@ -154,7 +166,8 @@ loop-again c =
     let first = second .before .before in
     let l = c .before .before .before .before .before .before .before .before .before .loop in
     let s = c .before .before .before .before .before .before .before .before .before .before .before .before .args in
-    on-by-four (now (s .t)) (s .e) (s .k) (s .n) (l .j) (l .at) (l .inv .0) (l .inv .2) (l .inv .3) (c .before .before .before .before .before .before .before .before .loop-test .taken)
+    on-by-four (now (s .t)) (s .e) (s .k) (s .n) (l .j) (l .at) (l .inv .0) (l .inv .2) (l .inv .3)
+    (c .before .before .before .before .before .before .before .before .loop-test .taken)
     (first-not first) (second-not second) (third-not third) (sym (c .before .is-for4 .ensures) ∙ c .if4 .left)
 
 returns-5 : tie.Need-returns-5 Inv-loop μ-loop Inv-loop μ-loop
@@ -194,10 +207,20 @@ seek-spec =
     tie.close
     (tie.spec
     Inv-loop μ-loop Inv-loop μ-loop (λ c κs. (c .before .pre .0, lit< tt)) mul-at add-at loop-holds (λ c. number c 3 (lit≤ tt))
-    is-for-requires returns (λ c. number (c .before .before .before) 1 (lit≤ tt)) (λ c. place (c .before .before .before) 1 (lit≤ tt)) is-for-requires-2
-    (λ c. number (c .before .before .before .before .before) 1 (lit≤ tt)) returns-2 (λ c. number (c .before .before .before .before .before) 2 (lit≤ tt)) (λ c. place (c .before .before .before .before .before) 2 (lit≤ tt)) is-for-requires-3
-    (λ c. number (c .before .before .before .before .before .before .before) 2 (lit≤ tt)) returns-3 (λ c. number (c .before .before .before .before .before .before .before) 3 (lit≤ tt)) (λ c. place (c .before .before .before .before .before .before .before) 3 (lit≤ tt)) is-for-requires-4
-    (λ c. number (c .before .before .before .before .before .before .before .before .before) 3 (lit≤ tt)) returns-4 (λ c. number (c .before .before .before .before .before .before .before .before .before) 4 (lit≤ tt)) (λ c. place (c .before .before .before .before .before .before .before .before .before) 4 (lit≤ tt))
-    (λ c. four-less (c .before .before .before .before .before .before .before .before .before .before .before .before .args .n) (c .before .before .before .before .before .before .before .before .before .loop .j) (c .before .before .before .before .before .before .before .before .loop-test .taken)) loop-again (λ c. c .before .loop .inv)
+    is-for-requires returns (λ c. number (c .before .before .before) 1 (lit≤ tt))
+    (λ c. place (c .before .before .before) 1 (lit≤ tt)) is-for-requires-2
+    (λ c. number (c .before .before .before .before .before) 1 (lit≤ tt)) returns-2
+    (λ c. number (c .before .before .before .before .before) 2 (lit≤ tt))
+    (λ c. place (c .before .before .before .before .before) 2 (lit≤ tt)) is-for-requires-3
+    (λ c. number (c .before .before .before .before .before .before .before) 2 (lit≤ tt)) returns-3
+    (λ c. number (c .before .before .before .before .before .before .before) 3 (lit≤ tt))
+    (λ c. place (c .before .before .before .before .before .before .before) 3 (lit≤ tt)) is-for-requires-4
+    (λ c. number (c .before .before .before .before .before .before .before .before .before) 3 (lit≤ tt)) returns-4
+    (λ c. number (c .before .before .before .before .before .before .before .before .before) 4 (lit≤ tt))
+    (λ c. place (c .before .before .before .before .before .before .before .before .before) 4 (lit≤ tt))
+    (λ c. four-less (c .before .before .before .before .before .before .before .before .before .before .before .before .args .n)
+    (c .before .before .before .before .before .before .before .before .before .loop .j)
+    (c .before .before .before .before .before .before .before .before .loop-test .taken)) loop-again (λ c. c .before .loop .inv)
     is-for-requires-5 returns-5 add-j-2 add-at-3
-    (λ c. one-less (c .before .before .before .before .before .before .before .before .args .n) (c .before .before .before .loop2 .j) (c .before .before .loop2-test .taken)) loop2-again returns-6)
+    (λ c. one-less (c .before .before .before .before .before .before .before .before .args .n)
+    (c .before .before .before .loop2 .j) (c .before .before .loop2-test .taken)) loop2-again returns-6)

@@ -25,24 +25,34 @@ abbrev μ-loop : tie.MeasureT-loop
 μ-loop t k at first count i₀ i = count - i
 
 -- the guard's two words, where they are read
-first-read : (c : tie.After-number-in Inv-loop μ-loop) → c .number-in .result ≡ flatView (now (c .before .before .before .args .t)) .asks (c .before .before .before .args .k) .first
-first-read c = c .number-in .ensures .0 ∙ ap (λ (x : ℕ). getD (now (c .before .before .before .args .t)) x 0) (c .before .guard-at .ensures .0)
+first-read : (c : tie.After-number-in Inv-loop μ-loop) → c .number-in .result ≡ flatView
+    (now (c .before .before .before .args .t)) .asks (c .before .before .before .args .k) .first
+first-read c =
+    c .number-in .ensures .0 ∙ ap (λ (x : ℕ). getD (now (c .before .before .before .args .t)) x 0) (c .before .guard-at .ensures .0)
 
-count-read : (c : tie.After-number-in2 Inv-loop μ-loop) → c .number-in2 .result ≡ flatView (now (c .before .before .before .before .args .t)) .asks (c .before .before .before .before .args .k) .count
-count-read c = c .number-in2 .ensures .0 ∙ ap (λ (x : ℕ). getD (now (c .before .before .before .before .args .t)) (x + 1) 0) (c .before .before .guard-at .ensures .0)
+count-read : (c : tie.After-number-in2 Inv-loop μ-loop) → c .number-in2 .result ≡ flatView
+    (now (c .before .before .before .before .args .t)) .asks (c .before .before .before .before .args .k) .count
+count-read c =
+    c .number-in2 .ensures .0 ∙ ap (λ (x : ℕ). getD (now (c .before .before .before .before .args .t)) (x + 1) 0)
+    (c .before .before .guard-at .ensures .0)
 
 good-literal-requires : tie.Need-good-literal-requires Inv-loop μ-loop
 good-literal-requires c κs =
-    let p = c .before .before .before .before .before .before in
-    (p .pre .0, in-span _ _ _ _ _ _ (first-read (c .before .before .before)) (count-read (c .before .before)) (p .pre .2) (c .loop-test .taken))
+    let p = c .before .before .before .before .before .before in (
+      p .pre .0,
+      in-span _ _ _ _ _ _ (first-read (c .before .before .before)) (count-read (c .before .before)) (p .pre .2)
+          (c .loop-test .taken),
+    )
 
 -- what is told of the literal at i
 told : (c : tie.After-good-literal Inv-loop μ-loop)
-    → c .good-literal .result ≡ held? (flatView (now (c .before .before .before .before .before .before .before .args .t))) (c .before .before .before .before .before .before .before .args .k) (c .before .before .loop .i)
+    → c .good-literal .result ≡ held? (flatView (now (c .before .before .before .before .before .before .before .args .t)))
+    (c .before .before .before .before .before .before .before .args .k) (c .before .before .loop .i)
 told c =
     let s = c .before .before .before .before .before .before .before .args in
     let f = flatView (now (s .t)) in
-    c .good-literal .ensures ∙ ap (λ (x : ℕ). flatLiteralKept f (s .k) (x + c .before .before .loop .i)) (first-read (c .before .before .before .before))
+    c .good-literal .ensures ∙ ap (λ (x : ℕ). flatLiteralKept f (s .k) (x + c .before .before .loop .i))
+    (first-read (c .before .before .before .before))
 
 returns : tie.Need-returns Inv-loop μ-loop
 unfolding goodGuard?
@@ -74,7 +84,10 @@ good-guard-spec =
     tie.close
     (tie.spec
     Inv-loop μ-loop (λ c κs. (c .before .pre .0, c .before .pre .1)) (λ c κs. first-of-two _ _ (c .guard-at .ensures .1))
-    (λ c. record { fits = lt-trans (c .before .guard-at .ensures .1) (c .before .before .before .good .0 .0) }) (λ c κs. c .before .guard-at .ensures .1)
-    (λ c. (zero-le, refl)) (λ c. place-fits _ _ _ (c .before .before .before .number-in .ensures .1) (c .loop-test .taken) (c .before .before .number-in2 .ensures .1))
-    good-literal-requires returns (λ c. next-fits _ _ (c .before .before .loop-test .taken) (c .before .before .before .before .number-in2 .ensures .1))
+    (λ c. record { fits = lt-trans (c .before .guard-at .ensures .1) (c .before .before .before .good .0 .0) })
+    (λ c κs. c .before .guard-at .ensures .1)
+    (λ c. (zero-le, refl)) (λ c. place-fits _ _ _ (c .before .before .before .number-in .ensures .1) (c .loop-test .taken)
+    (c .before .before .number-in2 .ensures .1))
+    good-literal-requires returns (λ c. next-fits _ _ (c .before .before .loop-test .taken)
+    (c .before .before .before .before .number-in2 .ensures .1))
     (λ c. less-left _ _ (c .before .before .loop-test .taken)) loop-again returns-2)

@@ -12,22 +12,28 @@ returns : tie.Need-returns
 returns c =
     let read = c .before .before .before in
     let s = c .before .before .before .before .before .before .before .before .args in
-    state-literal-read (now (s .t)) (s .k) (s .i) _ _ _ _ (read .before .before .before .literal-begin .ensures .0) (read .before .before .number-in .ensures .0)
-    (read .before .number-in2 .ensures .0) (read .number-in3 .ensures .0) _ _ (c .before .before .if1 .taken) (c .before .head .ensures .0) (c .both .ensures)
+    state-literal-read (now (s .t)) (s .k) (s .i) _ _ _ _ (read .before .before .before .literal-begin .ensures .0)
+    (read .before .before .number-in .ensures .0)
+    (read .before .number-in2 .ensures .0) (read .number-in3 .ensures .0) _ _ (c .before .before .if1 .taken)
+    (c .before .head .ensures .0) (c .both .ensures)
 
 returns-2 : tie.Need-returns-2
 returns-2 c =
     let read = c .before .before .before in
     let s = c .before .before .before .before .before .before .before .before .args in
-    variable-literal-read (now (s .t)) (s .k) (s .i) _ _ _ _ (read .before .before .before .literal-begin .ensures .0) (read .before .before .number-in .ensures .0)
-    (read .before .number-in2 .ensures .0) (read .number-in3 .ensures .0) _ _ (c .before .before .if1 .left) (c .before .if2 .taken) (c .head2 .ensures .0) refl
+    variable-literal-read (now (s .t)) (s .k) (s .i) _ _ _ _ (read .before .before .before .literal-begin .ensures .0)
+    (read .before .before .number-in .ensures .0)
+    (read .before .number-in2 .ensures .0) (read .number-in3 .ensures .0) _ _ (c .before .before .if1 .left)
+    (c .before .if2 .taken) (c .head2 .ensures .0) refl
 
 returns-3 : tie.Need-returns-3
 returns-3 c =
     let read = c .before .before .before in
     let s = c .before .before .before .before .before .before .before .before .args in
-    guard-literal-read (now (s .t)) (s .k) (s .i) _ _ _ _ (read .before .before .before .literal-begin .ensures .0) (read .before .before .number-in .ensures .0)
-    (read .before .number-in2 .ensures .0) (read .number-in3 .ensures .0) _ (c .before .before .if1 .left) (c .before .if2 .left) (c .names-guard .ensures)
+    guard-literal-read (now (s .t)) (s .k) (s .i) _ _ _ _ (read .before .before .before .literal-begin .ensures .0)
+    (read .before .before .number-in .ensures .0)
+    (read .before .number-in2 .ensures .0) (read .number-in3 .ensures .0) _ (c .before .before .if1 .left) (c .before .if2 .left)
+    (c .names-guard .ensures)
 
 pub good-literal-spec : {M : Type 1} → statement M
 good-literal-spec =
@@ -37,5 +43,6 @@ good-literal-spec =
     (λ c. record { fits = lt-trans (second-of-three _ _ (c .before .literal-begin .ensures .1)) (c .before .before .before .good .0 .0) })
     (λ c κs. second-of-three _ _ (c .before .literal-begin .ensures .1))
     (λ c. record { fits = lt-trans (c .before .before .literal-begin .ensures .1) (c .before .before .before .before .good .0 .0) })
-    (λ c κs. c .before .before .literal-begin .ensures .1) (λ c κs. (c .before .before .before .before .before .before .pre .0, lit< tt)) (λ c κs. tt) returns
+    (λ c κs. c .before .before .literal-begin .ensures .1)
+    (λ c κs. (c .before .before .before .before .before .before .pre .0, lit< tt)) (λ c κs. tt) returns
     (λ c κs. (c .before .before .before .before .before .before .before .pre .0, lit< tt)) returns-2 (λ c κs. tt) returns-3)

@@ -23,4 +23,7 @@ good-machines-spec =
     (tie.spec
     (λ c κs. (c .before .pre .0, lit< tt))
     (λ c κs. (c .before .before .before .pre .0, lt-of-lt-of-le (c .if1 .taken) (le-of-eq (c .before .head .ensures .0)))) returns
-    (λ c κs. (c .before .before .before .pre .0, behind-machines _ _ _ _ (c .before .head .ensures .0) (c .if1 .left) (c .before .before .before .pre .1))) returns-2)
+    (λ c κs. (
+      c .before .before .before .pre .0,
+      behind-machines _ _ _ _ (c .before .head .ensures .0) (c .if1 .left) (c .before .before .before .pre .1),
+    )) returns-2)

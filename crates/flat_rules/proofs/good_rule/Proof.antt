@@ -9,7 +9,8 @@ use Rattle.flat_rules.proofs.good_rule.Tie as tie
 returns : tie.Need-returns
 returns c =
     let s = c .before .before .before .before .before .before .before .args in
-    rule-read (now (s .t)) (s .k) _ _ _ _ _ _ (c .before .before .before .before .rule-at .ensures .0) (c .before .before .before .before .before .good-names .ensures) (c .before .before .before .span-inside .ensures)
+    rule-read (now (s .t)) (s .k) _ _ _ _ _ _ (c .before .before .before .before .rule-at .ensures .0)
+    (c .before .before .before .before .before .good-names .ensures) (c .before .before .before .span-inside .ensures)
     (c .before .before .good-target .ensures) (c .before .both .ensures) (c .both2 .ensures)
 
 pub good-rule-spec : {M : Type 1} → statement M
