@@ -59,5 +59,5 @@ pub apart-from-spec : {M : Type 1} → statement M
 apart-from-spec =
     tie.close
     (tie.spec
-    Inv-loop μ-loop (λ c κs. c .before .pre) loop-holds aim-of-requires-2 (λ c κs. c .before .before .before .before .before .pre .0) returns
-    (λ c. search needs) (λ c. search needs) loop-again returns-2)
+    Inv-loop μ-loop (λ c κs. c .before .pre) loop-holds aim-of-requires-2 (λ c κs. c .before .before .before .before .before .pre .0)
+    returns (λ c. search needs) (λ c. search needs) loop-again returns-2)

@@ -42,5 +42,5 @@ places-of-spec =
     tie.close
     (tie.spec
     (λ c κs. tt) (λ c κs. tt) (λ c κs. tt) (λ c. search needs) (λ c κs. tt) (λ c κs. tt) (λ c κs. tt) (λ c κs. tt)
-    (λ c. (rw (c .match .keys1), lit< tt)) (λ c. (rw (c .match .keys2), lit< tt)) (λ c. (rw (c .match .keys3), lit< tt)) returns-4 returns-5 returns-6 returns-7 returns-8
-    returns-9)
+    (λ c. (rw (c .match .keys1), lit< tt)) (λ c. (rw (c .match .keys2), lit< tt)) (λ c. (rw (c .match .keys3), lit< tt)) returns-4
+    returns-5 returns-6 returns-7 returns-8 returns-9)
