@@ -19,7 +19,10 @@ returns-4 : tie.Need-returns-4
 returns-4 c = (rw (c .before .match .keys4) (c .number .ensures .0), below (c .number .ensures .1))
 
 returns-5 : tie.Need-returns-5
-returns-5 c = (rw (c .before .before .match .keys5, c .before .number2 .ensures .0, c .number3 .ensures .0), sum-below (c .before .number2 .ensures .1) (c .number3 .ensures .1))
+returns-5 c =
+    let states = c .before .number2 .ensures in
+    let transitions = c .number3 .ensures in
+    (rw (c .before .before .match .keys5, states .0, transitions .0), sum-below (states .1) (transitions .1))
 
 returns-6 : tie.Need-returns-6
 returns-6 c = (rw (c .before .match .keys6) (c .number4 .ensures .0), below (c .number4 .ensures .1))
