@@ -1,7 +1,7 @@
 -- `chart_check::apart_from` meets its contract: the target is apart from each one passed. Assumes nothing.
 use borrow.Author.Needs.{needs}
 use Prim.Native.Nat.{ℕ, _-_}
-use mathlib.Core.Path.{_≡_, refl}
+use mathlib.Core.Path.{refl}
 use mathlib.Core.Bool.{Bool}
 use native.Mathlib.Nat.{lt-trans}
 use denote.Ref.{now}

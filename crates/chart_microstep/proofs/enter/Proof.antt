@@ -29,5 +29,6 @@ pub enter-spec : {M : Type 1} → statement M
 enter-spec =
     tie.close
     (tie.spec
-    entered-set-requires enter-all-requires (λ c. c .before .before .before .before .before .before .before .next .given) (λ c. c .before .before .before .before .before .vars .given)
-    (λ c. c .before .before .before .outs .given) (λ c. c .before .queue .given) returns)
+    entered-set-requires enter-all-requires (λ c. c .before .before .before .before .before .before .before .next .given)
+    (λ c. c .before .before .before .before .before .vars .given) (λ c. c .before .before .before .outs .given)
+    (λ c. c .before .queue .given) returns)

@@ -14,7 +14,9 @@ is-scoped-requires : tie.Need-is-scoped-requires
 is-scoped-requires c κs = let pre = c .before .before .before .before .before .pre in (chart-readable (pre .0), pre .2)
 
 take-own-requires : tie.Need-take-own-requires
-take-own-requires c κs = let pre = c .before .before .before .before .before .before .before .before .before .before .pre in (pre .0, pre .2)
+take-own-requires c κs =
+    let pre = c .before .before .before .before .before .before .before .before .before .before .pre in
+    (pre .0, pre .2)
 
 returns : tie.Need-returns
 unfolding doSteps
@@ -33,13 +35,19 @@ enter-requires c κs =
     (pre .0, pre .1, pre .2, c .before .before .before .before .before .before .before .before .before .before .before .before .before .before .scope-of .ensures .0)
 
 same-length-5 : tie.Need-same-length-5
-same-length-5 c = let entered = c .before .before .before .before .before in entered .vars3 .given ∙ entered .before .before .before .before .before .before .before .before .before .before .before .before .before .vars2 .given
+same-length-5 c =
+    let entered = c .before .before .before .before .before in
+    entered .vars3 .given ∙ entered .before .before .before .before .before .before .before .before .before .before .before .before .before .vars2 .given
 
 same-length-6 : tie.Need-same-length-6
-same-length-6 c = let entered = c .before .before .before in entered .outs3 .given ∙ entered .before .before .before .before .before .before .before .before .before .before .before .before .before .outs2 .given
+same-length-6 c =
+    let entered = c .before .before .before in
+    entered .outs3 .given ∙ entered .before .before .before .before .before .before .before .before .before .before .before .before .before .outs2 .given
 
 same-length-7 : tie.Need-same-length-7
-same-length-7 c = let entered = c .before in entered .queue3 .given ∙ entered .before .before .before .before .before .before .before .before .before .before .before .before .before .queue2 .given
+same-length-7 c =
+    let entered = c .before in
+    entered .queue3 .given ∙ entered .before .before .before .before .before .before .before .before .before .before .before .before .before .queue2 .given
 
 returns-2 : tie.Need-returns-2
 unfolding doSteps
@@ -56,5 +64,5 @@ fire-spec =
     (tie.spec
     is-scoped-requires take-own-requires (λ c. c .before .before .before .before .before .vars .given)
     (λ c. c .before .before .before .outs .given) (λ c. c .before .queue .given) returns scope-of-requires
-    (λ c κs. c .before .before .before .before .before .before .before .before .before .before .before .pre) enter-requires (λ c. c .before .before .before .before .before .before .before .next .given)
-    same-length-5 same-length-6 same-length-7 returns-2)
+    (λ c κs. c .before .before .before .before .before .before .before .before .before .before .before .pre) enter-requires
+    (λ c. c .before .before .before .before .before .before .before .next .given) same-length-5 same-length-6 same-length-7 returns-2)

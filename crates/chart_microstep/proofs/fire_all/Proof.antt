@@ -87,6 +87,6 @@ pub fire-all-spec : {M : Type 1} → statement M
 fire-all-spec =
     tie.close
     (tie.spec
-    Inv-loop μ-loop (λ c κs. (chart-readable (c .before .before .before .before .before .pre .0), lit< tt)) next-requires loop-holds fire-requires (λ c. search needs)
-    next-requires-2 loop-less loop-again (λ c. c .before .loop .inv .1) (λ c. c .before .loop .inv .2)
+    Inv-loop μ-loop (λ c κs. (chart-readable (c .before .before .before .before .before .pre .0), lit< tt)) next-requires loop-holds
+    fire-requires (λ c. search needs) next-requires-2 loop-less loop-again (λ c. c .before .loop .inv .1) (λ c. c .before .loop .inv .2)
     (λ c. c .before .loop .inv .3) (λ c. c .before .loop .inv .4) returns)

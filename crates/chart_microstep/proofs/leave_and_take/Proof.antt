@@ -17,13 +17,19 @@ take-own-requires c κs =
     (pre .0, pre .2)
 
 same-length : tie.Need-same-length
-same-length c = let took = c .before .before .before .before .before in took .vars2 .given ∙ took .before .before .before .before .before .before .before .before .before .before .vars .given
+same-length c =
+    let took = c .before .before .before .before .before in
+    took .vars2 .given ∙ took .before .before .before .before .before .before .before .before .before .before .vars .given
 
 same-length-2 : tie.Need-same-length-2
-same-length-2 c = let took = c .before .before .before in took .outs2 .given ∙ took .before .before .before .before .before .before .before .before .before .before .outs .given
+same-length-2 c =
+    let took = c .before .before .before in
+    took .outs2 .given ∙ took .before .before .before .before .before .before .before .before .before .before .outs .given
 
 same-length-3 : tie.Need-same-length-3
-same-length-3 c = let took = c .before in took .queue2 .given ∙ took .before .before .before .before .before .before .before .before .before .before .queue .given
+same-length-3 c =
+    let took = c .before in
+    took .queue2 .given ∙ took .before .before .before .before .before .before .before .before .before .before .queue .given
 
 returns : tie.Need-returns
 returns c =

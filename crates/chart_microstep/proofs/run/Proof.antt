@@ -26,6 +26,8 @@ pub run-spec : {M : Type 1} → statement M
 run-spec =
     tie.close
     (tie.spec
-    (λ c κs. c .before .before .before .before .before .before .pre) (λ c κs. tt) (λ c κs. c .before .before .before .before .before .before .before .before .before .pre .0) fire-all-requires
-    (λ c. c .before .before .before .before .before .before .before .next .given) (λ c. c .before .before .before .before .before .vars .given)
-    (λ c. c .before .before .before .outs .given) (λ c. c .before .queue .given) returns)
+    (λ c κs. c .before .before .before .before .before .before .pre) (λ c κs. tt)
+    (λ c κs. c .before .before .before .before .before .before .before .before .before .pre .0) fire-all-requires
+    (λ c. c .before .before .before .before .before .before .before .next .given)
+    (λ c. c .before .before .before .before .before .vars .given) (λ c. c .before .before .before .outs .given)
+    (λ c. c .before .queue .given) returns)
