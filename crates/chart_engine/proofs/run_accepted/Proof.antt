@@ -38,12 +38,13 @@ run-state-requires c κs =
 
 returns-3 : tie.Need-returns-3
 returns-3 c =
-    let s = c .before .before .before .before .before .before .before .before .before .before .before .before .before .before .before .before .before .before .args in
-    let good = c .before .before .before .before .before .before .before .before .before .before .before .is-state in
+    let asked = c .before .before .before .before .before .before .before in
+    let s = asked .before .before .before .before .before .before .before .before .before .before .before .args in
+    let good = asked .before .before .before .before .is-state in
+    let known = rw (asked .before .wide .ensures .0, asked .before .before .head .ensures .0) at (asked .if2 .left) in
     c .before .before .before .before .run-state .ensures
     ∙ sym (good-call (view (now (s .t))) (now (s .state)) (s .event) (now (s .outputs))
-    (sym (good .ensures) ∙ not-false (good .result) (c .before .before .before .before .before .before .before .before .before .before .if1 .left))
-    (let asked = c .before .before .before .before .before .before .before in rw (asked .before .wide .ensures .0, asked .before .before .head .ensures .0) at (asked .if2 .left)))
+    (sym (good .ensures) ∙ not-false (good .result) (asked .before .before .before .if1 .left)) known)
 
 pub run-accepted-spec : {M : Type 1} → statement M
 run-accepted-spec =
