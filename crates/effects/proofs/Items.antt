@@ -50,7 +50,8 @@ itemsFrom-many t base first (suc count) =
     (ap (λ (at : ℕ). itemsFrom t at count) e ∙ itemsFrom-many t base (suc first) count)
 
 -- the items of a span, read word by word
-module _ (t : List ℕ) (base at from first count : ℕ) (p : from ≡ getD t base 0) (q : first ≡ getD t at 0) (r : count ≡ getD t (at + 1) 0) where
+module _ (t : List ℕ) (base at from first count : ℕ) (p : from ≡ getD t base 0) (q : first ≡ getD t at 0)
+    (r : count ≡ getD t (at + 1) 0) where
   pub span-items : itemsFrom t (from + 3 * first) count ≡ spanItems t base at
   unfolding spanItems
   span-items = rw (p, q, r) (itemsFrom-many t (getD t base 0) (getD t at 0) (getD t (at + 1) 0))

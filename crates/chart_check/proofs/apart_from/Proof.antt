@@ -1,8 +1,9 @@
 -- `chart_check::apart_from` meets its contract: the target is apart from each one passed. Assumes nothing.
 use borrow.Author.Needs.{needs}
 use Prim.Native.Nat.{ℕ, _-_}
-use mathlib.Core.Path.{_≡_, refl}
+use mathlib.Core.Path.{refl}
 use mathlib.Core.Bool.{Bool}
+use native.Mathlib.Nat.{lt-trans}
 use denote.Ref.{now}
 use Rattle.chart.specs.View.{Chart, view}
 use Rattle.chart.specs.Tree.{apart}
@@ -24,6 +25,11 @@ abbrev μ-loop : tie.MeasureT-loop
 
 loop-holds : tie.Need-loop-holds Inv-loop μ-loop
 loop-holds c = let s = c .before .before .args in starts (before? (view (now (s .t))) (s .k) (s .i)) _
+
+aim-of-requires-2 : tie.Need-aim-of-requires-2 Inv-loop μ-loop
+aim-of-requires-2 c κs =
+    let pre = c .before .before .before .before .pre in
+    (pre .0, pre .1, pre .2, lt-trans (c .loop-test .taken) (pre .3))
 
 returns : tie.Need-returns Inv-loop μ-loop
 unfolding apartFrom?
@@ -53,5 +59,5 @@ pub apart-from-spec : {M : Type 1} → statement M
 apart-from-spec =
     tie.close
     (tie.spec
-    Inv-loop μ-loop (λ c κs. search needs) loop-holds (λ c κs. search needs) (λ c κs. search needs) returns
-    (λ c. search needs) (λ c. search needs) loop-again returns-2)
+    Inv-loop μ-loop (λ c κs. c .before .pre) loop-holds aim-of-requires-2 (λ c κs. c .before .before .before .before .before .pre .0)
+    returns (λ c. search needs) (λ c. search needs) loop-again returns-2)

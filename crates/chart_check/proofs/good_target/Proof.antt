@@ -2,7 +2,6 @@
 use borrow.Author.Tests.{not-true, not-false}
 use mathlib.Core.Path.{sym, _∙_}
 use Rattle.chart_rules.specs.Tests.{goodTarget?}
-use borrow.Author.Needs.{needs}
 use Rattle.chart_check.proofs.good_target.Statement.{statement}
 use Rattle.chart_check.proofs.good_target.Tie as tie
 
@@ -22,4 +21,4 @@ pub good-target-spec : {M : Type 1} → statement M
 good-target-spec =
     tie.close
     (tie.spec
-    (λ c κs. search needs) (λ c κs. search needs) returns (λ c κs. search needs) returns-2)
+    (λ c κs. c .before .pre) (λ c κs. c .before .before .pre .0) returns (λ c κs. c .before .before .before .before .pre) returns-2)

@@ -1,8 +1,7 @@
 -- `chart_engine::run_accepted` meets its contract: state and event are tested in the order of the refusals. Assumes nothing.
 use borrow.Author.Needs.{needs}
 use borrow.Author.Tests.{not-true, not-false}
-use mathlib.Core.Path.{sym, _∙_}
-use native.Mathlib.Omega.{arith}
+use mathlib.Core.Path.{refl, sym, _∙_}
 use denote.Ref.{now}
 use Rattle.chart.specs.View.{view}
 use Rattle.chart_engine.proofs.Answers.{long-state, no-state, no-event, good-call}
@@ -22,7 +21,7 @@ returns-2 c =
     let good = c .before .before .before .before .is-state in
     no-event (view (now (s .t))) (now (s .state)) (s .event) (now (s .outputs))
     (sym (good .ensures) ∙ not-false (good .result) (c .before .before .before .if1 .left))
-    (omega (arith, c .if2 .taken, c .before .before .head .ensures .0, c .before .wide .ensures .0))
+    (rw (c .before .before .head .ensures .0, c .before .wide .ensures .0) at (c .if2 .taken))
 
 run-state-requires : tie.Need-run-state-requires
 run-state-requires c κs =
@@ -39,16 +38,18 @@ run-state-requires c κs =
 
 returns-3 : tie.Need-returns-3
 returns-3 c =
-    let s = c .before .before .before .before .before .before .before .before .before .before .before .before .before .before .before .before .before .before .args in
-    let good = c .before .before .before .before .before .before .before .before .before .before .before .is-state in
+    let asked = c .before .before .before .before .before .before .before in
+    let s = asked .before .before .before .before .before .before .before .before .before .before .before .args in
+    let good = asked .before .before .before .before .is-state in
+    let known = rw (asked .before .wide .ensures .0, asked .before .before .head .ensures .0) at (asked .if2 .left) in
     c .before .before .before .before .run-state .ensures
     ∙ sym (good-call (view (now (s .t))) (now (s .state)) (s .event) (now (s .outputs))
-    (sym (good .ensures) ∙ not-false (good .result) (c .before .before .before .before .before .before .before .before .before .before .if1 .left))
-    (omega (arith, c .before .before .before .before .before .before .before .if2 .left, c .before .before .before .before .before .before .before .before .wide .ensures .0, c .before .before .before .before .before .before .before .before .before .head .ensures .0)))
+    (sym (good .ensures) ∙ not-false (good .result) (asked .before .before .before .if1 .left)) known)
 
 pub run-accepted-spec : {M : Type 1} → statement M
 run-accepted-spec =
     tie.close
     (tie.spec
-    (λ c κs. search needs) (λ c κs. search needs) (λ c κs. search needs) (λ c. search needs) returns (λ c κs. search needs)
-    (λ c κs. search needs) (λ c. search needs) returns-2 run-state-requires (λ c. search needs) (λ c. search needs) returns-3)
+    (λ c κs. search needs) (λ c κs. search needs) (λ c κs. search needs) (λ c. refl) returns (λ c κs. search needs)
+    (λ c κs. tt) (λ c. refl) returns-2 run-state-requires (λ c. c .before .before .before .state .given)
+    (λ c. c .before .outputs .given) returns-3)

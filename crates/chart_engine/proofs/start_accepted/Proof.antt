@@ -60,4 +60,4 @@ start-accepted-spec =
     tie.close
     (tie.spec
     (λ c κs. search needs) (λ c κs. search needs) (λ c κs. search needs) (λ c. search needs) returns (λ c κs. search needs)
-    (λ c κs. search needs) (λ c. search needs) returns-2)
+    (λ c κs. search needs) (λ c. c .before .state2 .given ∙ c .before .before .before .before .before .state .given) returns-2)

@@ -7,8 +7,9 @@ use Rattle.chart_head.proofs.back_layout.Tie as tie
 
 returns : tie.Need-returns
 returns c =
-    let last = c .before .both .ensures ∙ ap₂ _&&_ (c .before .before .before .follows2 .ensures) (c .before .before .follows3 .ensures) in
-    c .both2 .ensures ∙ ap₂ _&&_ (c .before .before .before .before .follows .ensures) last
+    let second = c .before .before .before .follows2 .ensures in
+    let third = c .before .before .follows3 .ensures in
+    c .both2 .ensures ∙ ap₂ _&&_ (c .before .before .before .before .follows .ensures) (c .before .both .ensures ∙ ap₂ _&&_ second third)
 
 pub back-layout-spec : {M : Type 1} → statement M
 back-layout-spec =

@@ -9,8 +9,9 @@ use Rattle.chart_head.proofs.good_counts.Tie as tie
 returns : tie.Need-returns
 unfolding goodCounts?
 returns c =
-    let last = c .before .both .ensures ∙ ap₂ _&&_ (c .before .before .before .name-counts .ensures) (c .before .before .list-counts .ensures) in
-    c .both2 .ensures ∙ ap₂ _&&_ (c .before .before .before .before .tree-counts .ensures) last
+    let second = c .before .before .before .name-counts .ensures in
+    let third = c .before .before .list-counts .ensures in
+    c .both2 .ensures ∙ ap₂ _&&_ (c .before .before .before .before .tree-counts .ensures) (c .before .both .ensures ∙ ap₂ _&&_ second third)
 
 pub good-counts-spec : {M : Type 1} → statement M
 good-counts-spec =

@@ -7,8 +7,9 @@ use Rattle.chart_head.proofs.name_counts.Tie as tie
 
 returns : tie.Need-returns
 returns c =
-    let last = c .before .both .ensures ∙ ap₂ _&&_ (c .before .before .before .count-between2 .ensures) (c .before .before .count-between3 .ensures) in
-    c .both2 .ensures ∙ ap₂ _&&_ (c .before .before .before .before .count-between .ensures) last
+    let second = c .before .before .before .count-between2 .ensures in
+    let third = c .before .before .count-between3 .ensures in
+    c .both2 .ensures ∙ ap₂ _&&_ (c .before .before .before .before .count-between .ensures) (c .before .both .ensures ∙ ap₂ _&&_ second third)
 
 pub name-counts-spec : {M : Type 1} → statement M
 name-counts-spec =

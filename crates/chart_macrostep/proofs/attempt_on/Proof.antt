@@ -101,18 +101,21 @@ slice-aggregate-lay-rest c =
 
 slice-relend-prefix-lay-rest : tie.Need-slice-relend-prefix-lay-rest
 slice-relend-prefix-lay-rest c =
-    let read = c .before .before .before .before .before .before .before .before .before .before .before .before .before .before .before .before .before .before .before .before .before .before .before .before .before .before .before in
+    let ran = c .before .before .before .before .before .before .before .before .before .before .before in
+    let read = ran .before .before .before .before .before .before .before .before .before .before .before .before .before .before .before .before in
     front-fits (read .before .before .before .before .before .before .before .pre .0)
 
 slice-aggregate-lay-rest-2 : tie.Need-slice-aggregate-lay-rest-2
 slice-aggregate-lay-rest-2 c =
-    let read = c .before .before .before .before .before .before .before .before .before .before .before .before .before .before .before .before .before .before .before .before .before .before .before .before .before .before .before .before in
+    let ran = c .before .before .before .before .before .before .before .before .before .before .before .before in
+    let read = ran .before .before .before .before .before .before .before .before .before .before .before .before .before .before .before .before in
     let start = read .before .before .before .before .before .before .before in
     sym (length-take-le (start .args .words) (now (start .args .state)) (front-fits (start .pre .0)))
 
 lay-rest-requires : tie.Need-lay-rest-requires
 lay-rest-requires c κs =
-    let read = c .before .before .before .before .before .before .before .before .before .before .before .before .before .before .before .before .before .before .before .before .before .before .before .before .before .before .before .before in
+    let ran = c .before .before .before .before .before .before .before .before .before .before .before .before in
+    let read = ran .before .before .before .before .before .before .before .before .before .before .before .before .before .before .before .before in
     let start = read .before .before .before .before .before .before .before in
     let lent = start .pre .0 in
     (lent .rules, lent .or-states, or-states-fit lent (length-take-le (start .args .words) (now (start .args .state)) (front-fits lent)))
@@ -148,10 +151,14 @@ same-length : tie.Need-same-length
 same-length c = c .before .state2 .given ∙ c .before .before .before .before .before .before .state .given .1
 
 same-length-2 : tie.Need-same-length-2
-same-length-2 c = let ran = c .before .before .before .before .before .before .before .before .before .before .before .before .before .before .before .before .before .before .before in ran .next2 .given .1 ∙ ran .before .before .before .before .before .before .before .before .before .before .before .before .before .next .given .1
+same-length-2 c =
+    let ran = c .before .before .before .before .before .before .before .before .before .before .before .before .before .before .before .before .before .before .before in
+    ran .next2 .given .1 ∙ ran .before .before .before .before .before .before .before .before .before .before .before .before .before .next .given .1
 
 same-length-3 : tie.Need-same-length-3
-same-length-3 c = let ran = c .before .before .before .before .before .before .before .before .before .before .before .before .before .before .before .before .before in ran .vars2 .given .1 ∙ ran .before .before .before .before .before .before .before .before .before .before .vars .given .1
+same-length-3 c =
+    let ran = c .before .before .before .before .before .before .before .before .before .before .before .before .before .before .before .before .before in
+    ran .vars2 .given .1 ∙ ran .before .before .before .before .before .before .before .before .before .before .vars .given .1
 
 same-length-4 : tie.Need-same-length-4
 same-length-4 c = c .before .before .before .before .before .before .before .before .before .before .before .before .before .before .before .outs .given
@@ -186,10 +193,14 @@ returns c =
 
 -- ---- it is not told
 same-length-7 : tie.Need-same-length-7
-same-length-7 c = let ran = c .before .before .before .before .before .before .before .before .before in ran .next2 .given .1 ∙ ran .before .before .before .before .before .before .before .before .before .before .before .before .before .next .given .1
+same-length-7 c =
+    let ran = c .before .before .before .before .before .before .before .before .before in
+    ran .next2 .given .1 ∙ ran .before .before .before .before .before .before .before .before .before .before .before .before .before .next .given .1
 
 same-length-8 : tie.Need-same-length-8
-same-length-8 c = let ran = c .before .before .before .before .before .before .before in ran .vars2 .given .1 ∙ ran .before .before .before .before .before .before .before .before .before .before .vars .given .1
+same-length-8 c =
+    let ran = c .before .before .before .before .before .before .before in
+    ran .vars2 .given .1 ∙ ran .before .before .before .before .before .before .before .before .before .before .vars .given .1
 
 returns-2 : tie.Need-returns-2
 returns-2 c =

@@ -40,7 +40,9 @@ same-length-4 : tie.Need-same-length-4
 same-length-4 c = c .before .before .before .before .before .before .before .before .before .before .before .before .state .given
 
 same-length-5 : tie.Need-same-length-5
-same-length-5 c = c .before .before .before .outputs2 .given .1 ∙ c .before .before .before .before .before .before .before .before .before .before .outputs .given .1
+same-length-5 c =
+    c .before .before .before .outputs2 .given .1
+    ∙ c .before .before .before .before .before .before .before .before .before .before .outputs .given .1
 
 same-length-6 : tie.Need-same-length-6
 same-length-6 c = c .before .before .before .before .before .before .before .before .before .before .before .before .before .before .before .before .before .kept .given
@@ -67,7 +69,9 @@ attempt-requires-2 c κs =
     }
 
 same-length-7 : tie.Need-same-length-7
-same-length-7 c = c .before .before .before .state2 .given ∙ c .before .before .before .before .before .before .before .before .before .before .before .before .before .before .before .before .before .before .before .state .given
+same-length-7 c =
+    c .before .before .before .state2 .given
+    ∙ c .before .before .before .before .before .before .before .before .before .before .before .before .before .before .before .before .before .before .before .state .given
 
 same-length-8 : tie.Need-same-length-8
 same-length-8 c =
@@ -75,7 +79,9 @@ same-length-8 c =
     c .before .outputs3 .given ∙ again .outputs2 .given .1 ∙ again .before .before .before .before .before .before .before .outputs .given .1
 
 same-length-9 : tie.Need-same-length-9
-same-length-9 c = let again = c .before .before .before .before .before .before .before .before .before .before in again .before .before .before .before .before .before .before .before .before .before .before .before .before .before .kept .given
+same-length-9 c =
+    let again = c .before .before .before .before .before .before .before .before .before .before in
+    again .before .before .before .before .before .before .before .before .before .before .before .before .before .before .kept .given
 
 returns-3 : tie.Need-returns-3
 returns-3 c =
@@ -91,8 +97,10 @@ pub pass-spec : {M : Type 1} → statement M
 pass-spec =
     tie.close
     (tie.spec
-    (λ c κs. tt) (λ c κs. search needs) (λ c. c .before .before .before .before .before .before .before .before .before .before .before .pre .1)
-    slice-aggregate-attempt (λ c κs. c .before .before .before .before .before .before .before .before .before .before .before .before .pre .0) (λ c κs. tt)
-    (λ c. c .before .before .before .before .before .state .given) (λ c. c .before .before .before .outputs .given .1) (λ c. c .before .before .before .before .before .before .before .before .before .before .kept .given) returns
-    slice-relend-prefix-load slice-aggregate-load load-requires-2 (λ c κs. tt) same-length-4 same-length-5 same-length-6
-    returns-2 attempt-requires-2 same-length-7 same-length-8 same-length-9 returns-3)
+    (λ c κs. tt) (λ c κs. search needs)
+    (λ c. c .before .before .before .before .before .before .before .before .before .before .before .pre .1) slice-aggregate-attempt
+    (λ c κs. c .before .before .before .before .before .before .before .before .before .before .before .before .pre .0) (λ c κs. tt)
+    (λ c. c .before .before .before .before .before .state .given) (λ c. c .before .before .before .outputs .given .1)
+    (λ c. c .before .before .before .before .before .before .before .before .before .before .kept .given) returns
+    slice-relend-prefix-load slice-aggregate-load load-requires-2 (λ c κs. tt) same-length-4 same-length-5 same-length-6 returns-2
+    attempt-requires-2 same-length-7 same-length-8 same-length-9 returns-3)

@@ -3,9 +3,11 @@ use denote.Ref.{now}
 use mathlib.Core.Path.{sym, _∙_}
 use Rattle.chart.specs.View.{view}
 use Rattle.chart_microstep.proofs.Fires.{enters-same, entered-parent}
-use borrow.Author.Needs.{needs}
 use Rattle.chart_microstep.proofs.enter.Statement.{statement}
 use Rattle.chart_microstep.proofs.enter.Tie as tie
+
+entered-set-requires : tie.Need-entered-set-requires
+entered-set-requires c κs = let pre = c .before .before .before .before .before .before .pre in (pre .0, pre .2, pre .1, pre .3)
 
 enter-all-requires : tie.Need-enter-all-requires
 enter-all-requires c κs =
@@ -27,5 +29,6 @@ pub enter-spec : {M : Type 1} → statement M
 enter-spec =
     tie.close
     (tie.spec
-    (λ c κs. search needs) enter-all-requires (λ c. search needs) (λ c. search needs) (λ c. search needs)
-    (λ c. search needs) returns)
+    entered-set-requires enter-all-requires (λ c. c .before .before .before .before .before .before .before .next .given)
+    (λ c. c .before .before .before .before .before .vars .given) (λ c. c .before .before .before .outs .given)
+    (λ c. c .before .queue .given) returns)

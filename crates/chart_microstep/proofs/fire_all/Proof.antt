@@ -4,13 +4,14 @@ use Prim.Native.Nat.{ℕ, _-_, _<_, _≤_}
 use mathlib.Core.Path.{_≡_, refl, ap, _∙_}
 use mathlib.Core.Bool.{true, false}
 use native.Mathlib.Omega.{arith}
+use lib.Dec.{lit<}
 use denote.Ref.{now}
 use lib.ListN.{length, getD}
 use Rattle.words.specs.Loops.{joinUp}
 use Rattle.effects.specs.Work.{going, doSteps}
 use Rattle.effects.proofs.Members.{begun, risen}
 use Rattle.chart.specs.View.{view}
-use Rattle.chart_rules.proofs.Readable.{chart-needs}
+use Rattle.chart_rules.proofs.Readable.{chart-readable}
 use Rattle.states.specs.Cells.{cells}
 use Rattle.chart_meaning.proofs.Tree.{tree}
 use Rattle.chart_microstep.proofs.Turn.{one, in-turn}
@@ -65,10 +66,10 @@ loop-again c =
     let k-in : l .k < view (now (s .t)) .transitions = omega (arith, n, on) in
     let turn = in-turn (tree (pre .0)) (now (s .next)) (cells (s .acts)) (cells (s .taken)) (pre .2) in (
       e .up-to,
-      search needs,
-      search needs,
-      search needs,
-      search needs,
+      c .before .before .before .before .before .before .before .before .next2 .given ∙ l .inv .1,
+      c .before .before .before .before .before .before .vars .given ∙ l .inv .2,
+      c .before .before .before .before .outs .given ∙ l .inv .3,
+      c .before .before .queue .given ∙ l .inv .4,
       e .member,
       risen (s .pairs) f (λ j. getD (cells (s .taken)) j false) (λ j no. rw no refl) (l .k) _ _ _ _ e
           (turn (s .pairs) (l .k) _ _ _ k-in (l .inv .5 on) refl (l .inv .6) (c .before .before .before .before .before .before .before .before .before .fire .ensures)),
@@ -86,5 +87,6 @@ pub fire-all-spec : {M : Type 1} → statement M
 fire-all-spec =
     tie.close
     (tie.spec
-    Inv-loop μ-loop (λ c κs. search chart-needs) next-requires loop-holds fire-requires (λ c. search needs)
-    next-requires-2 loop-less loop-again (λ c. search needs) (λ c. search needs) (λ c. search needs) (λ c. search needs) returns)
+    Inv-loop μ-loop (λ c κs. (chart-readable (c .before .before .before .before .before .pre .0), lit< tt)) next-requires loop-holds
+    fire-requires (λ c. search needs) next-requires-2 loop-less loop-again (λ c. c .before .loop .inv .1) (λ c. c .before .loop .inv .2)
+    (λ c. c .before .loop .inv .3) (λ c. c .before .loop .inv .4) returns)

@@ -4,9 +4,32 @@ use denote.Ref.{now}
 use Rattle.effects.specs.Work.{doStep}
 use Rattle.chart.specs.View.{view}
 use Rattle.chart_meaning.specs.Steps.{takeStep}
-use borrow.Author.Needs.{needs}
 use Rattle.chart_microstep.proofs.leave_and_take.Statement.{statement}
 use Rattle.chart_microstep.proofs.leave_and_take.Tie as tie
+
+leave-all-requires : tie.Need-leave-all-requires
+leave-all-requires c κs = let pre = c .before .before .before .before .before .before .before .pre in (pre .0, pre .1)
+
+take-own-requires : tie.Need-take-own-requires
+take-own-requires c κs =
+    let left = c .before .before .before .before .before .before .before .before .before .before in
+    let pre = left .before .before .before .before .before .before .before .pre in
+    (pre .0, pre .2)
+
+same-length : tie.Need-same-length
+same-length c =
+    let took = c .before .before .before .before .before in
+    took .vars2 .given ∙ took .before .before .before .before .before .before .before .before .before .before .vars .given
+
+same-length-2 : tie.Need-same-length-2
+same-length-2 c =
+    let took = c .before .before .before in
+    took .outs2 .given ∙ took .before .before .before .before .before .before .before .before .before .before .outs .given
+
+same-length-3 : tie.Need-same-length-3
+same-length-3 c =
+    let took = c .before in
+    took .queue2 .given ∙ took .before .before .before .before .before .before .before .before .before .before .queue .given
 
 returns : tie.Need-returns
 returns c =
@@ -18,5 +41,4 @@ pub leave-and-take-spec : {M : Type 1} → statement M
 leave-and-take-spec =
     tie.close
     (tie.spec
-    (λ c κs. search needs) (λ c κs. search needs) (λ c. search needs) (λ c. search needs) (λ c. search needs)
-    returns)
+    leave-all-requires take-own-requires same-length same-length-2 same-length-3 returns)

@@ -3,7 +3,6 @@ use denote.Ref.{now}
 use Rattle.chart.specs.View.{view}
 use Rattle.states.specs.Cells.{cells}
 use Rattle.chart_microstep.proofs.Same.{took, machine-runs}
-use borrow.Author.Needs.{needs}
 use Rattle.chart_microstep.proofs.run.Statement.{statement}
 use Rattle.chart_microstep.proofs.run.Tie as tie
 
@@ -27,5 +26,8 @@ pub run-spec : {M : Type 1} → statement M
 run-spec =
     tie.close
     (tie.spec
-    (λ c κs. search needs) (λ c κs. search needs) (λ c κs. search needs) fire-all-requires
-    (λ c. search needs) (λ c. search needs) (λ c. search needs) (λ c. search needs) returns)
+    (λ c κs. c .before .before .before .before .before .before .pre) (λ c κs. tt)
+    (λ c κs. c .before .before .before .before .before .before .before .before .before .pre .0) fire-all-requires
+    (λ c. c .before .before .before .before .before .before .before .next .given)
+    (λ c. c .before .before .before .before .before .vars .given) (λ c. c .before .before .before .outs .given)
+    (λ c. c .before .queue .given) returns)

@@ -26,10 +26,14 @@ rank-of-requires c κs =
     (pre .0, pre .2, omega (arith, c .before .state-word .ensures .0, pre .3))
 
 cast-put : tie.Need-cast-put
-cast-put c = let pre = c .before .before .before .before .before .before .before .before .pre in omega (arith, pre .0 .counts .states .1, pre .1)
+cast-put c =
+    let pre = c .before .before .before .before .before .before .before .before .pre in
+    omega (arith, pre .0 .counts .states .1, pre .1)
 
 state-at-requires : tie.Need-state-at-requires
-state-at-requires c κs = let pre = c .before .before .before .before .before .before .before .before .before .before .before .pre in (chart-readable (pre .0), pre .1)
+state-at-requires c κs =
+    let pre = c .before .before .before .before .before .before .before .before .before .before .before .pre in
+    (chart-readable (pre .0), pre .1)
 
 run-span-requires : tie.Need-run-span-requires
 run-span-requires c κs =
@@ -43,7 +47,8 @@ unfolding enterStep
 returns c =
     let s = c .before .before .before .before .before .before .before .before .before .before .before .before .before .before .before .before .before .before .before .before .before .before .before .args in
     let v = view (now (s .t)) in
-    let at = ap (λ (i : ℕ). spanAt (now (s .t)) (i + 5)) (c .before .before .before .before .before .before .before .before .before .before .before .state-at .ensures .0) in
+    let found = c .before .before .before .before .before .before .before .before .before .before .before .state-at in
+    let at = ap (λ (i : ℕ). spanAt (now (s .t)) (i + 5)) (found .ensures .0) in
     let up = c .before .before .before .before .before .before .before .before .before .before .before .before .before .before .before .before .before .state-word .ensures .0 in
     let rank = c .before .before .before .before .before .before .before .before .before .before .before .before .before .before .before .rank-of .ensures ∙ ap (orRank v) up in
     one-step (s .pairs) (enterStep v (s .j)) (s .n) _ _ _ (now (s .next)) _ _ _ _ _ _ _
@@ -53,6 +58,7 @@ pub enter-one-spec : {M : Type 1} → statement M
 enter-one-spec =
     tie.close
     (tie.spec
-    state-word-requires rank-of-requires cast-put (λ c κs. tt) state-at-requires (λ c. search needs) (λ c κs. tt)
-    run-span-requires (λ c. c .before .before .before .before .before .before .before .before .before .before .before .before .before .next .given) (λ c. c .before .before .before .before .before .vars .given)
-    (λ c. c .before .before .before .outs .given) (λ c. c .before .queue .given) returns)
+    state-word-requires rank-of-requires cast-put (λ c κs. tt) state-at-requires (λ c. search needs) (λ c κs. tt) run-span-requires
+    (λ c. c .before .before .before .before .before .before .before .before .before .before .before .before .before .next .given)
+    (λ c. c .before .before .before .before .before .vars .given) (λ c. c .before .before .before .outs .given)
+    (λ c. c .before .queue .given) returns)

@@ -36,7 +36,8 @@ unfolding doSteps leaveStep
 returns-2 c =
     let s = c .before .before .before .before .before .before .before .before .before .before .before .before .before .before .before .before .before .before .args in
     let v = view (now (s .t)) in
-    let at = ap (λ (i : ℕ). spanAt (now (s .t)) (i + 3)) (c .before .before .before .before .before .before .before .before .before .before .before .state-at .ensures .0) in
+    let found = c .before .before .before .before .before .before .before .before .before .before .before .state-at in
+    let at = ap (λ (i : ℕ). spanAt (now (s .t)) (i + 3)) (found .ensures .0) in
     let below = c .before .before .before .before .before .before .before .before .before .before .before .before .before .is-beneath in
     λ next. rw (sym (below .ensures) ∙ not-false (below .result) (c .before .before .before .before .before .before .before .before .before .before .before .before .if1 .left))
     (one-step (s .pairs) (leaveStep v (s .j)) (s .n) _ _ _ next next _ _ _ _ _ _
@@ -46,5 +47,6 @@ pub leave-one-spec : {M : Type 1} → statement M
 leave-one-spec =
     tie.close
     (tie.spec
-    (λ c κs. chart-readable (c .before .before .before .before .pre .0)) returns state-at-requires (λ c. search needs) (λ c κs. tt) run-span-requires
-    (λ c. c .before .before .before .before .before .vars .given) (λ c. c .before .before .before .outs .given) (λ c. c .before .queue .given) returns-2)
+    (λ c κs. chart-readable (c .before .before .before .before .pre .0)) returns state-at-requires (λ c. search needs) (λ c κs. tt)
+    run-span-requires (λ c. c .before .before .before .before .before .vars .given) (λ c. c .before .before .before .outs .given)
+    (λ c. c .before .queue .given) returns-2)

@@ -29,7 +29,8 @@ unfolding takeStep
 returns c =
     let s = c .before .before .before .before .before .before .before .before .before .before .before .before .before .before .before .before .args in
     let v = view (now (s .t)) in
-    let at = ap (λ (i : ℕ). spanAt (now (s .t)) (i + 4)) (c .before .before .before .before .before .before .before .before .before .before .before .transition-at .ensures .0) in
+    let found = c .before .before .before .before .before .before .before .before .before .before .before .transition-at in
+    let at = ap (λ (i : ℕ). spanAt (now (s .t)) (i + 4)) (found .ensures .0) in
     λ next.
     one-step (s .pairs) (takeStep v (s .k)) (s .n) _ _ _ next next _ _ _ _ _ _
     (c .before .before .before .before .before .before .before .count-fire .ensures) (span-does (now (s .t)) _ _ at) refl (c .before .before .before .before .before .before .run-span .ensures)
@@ -38,5 +39,6 @@ pub take-own-spec : {M : Type 1} → statement M
 take-own-spec =
     tie.close
     (tie.spec
-    transition-at-requires (λ c. search needs) (λ c κs. tt) run-span-requires (λ c. c .before .before .before .before .before .vars .given)
-    (λ c. c .before .before .before .outs .given) (λ c. c .before .queue .given) returns)
+    transition-at-requires (λ c. search needs) (λ c κs. tt) run-span-requires
+    (λ c. c .before .before .before .before .before .vars .given) (λ c. c .before .before .before .outs .given)
+    (λ c. c .before .queue .given) returns)

@@ -59,6 +59,6 @@ run-items-spec =
     tie.close
     (tie.spec
     Inv-loop μ-loop (λ c. (c .before .before .before .before .pre, refl, refl, refl, refl)) (λ c κs. tt)
-    (λ c. c .before .before .before .loop .inv .1) (λ c. c .before .before .before .loop .inv .2) (λ c. c .before .before .before .loop .inv .3) returns item-at-requires
-    (λ c κs. tt) (λ c. search needs) sub-left loop-less loop-again
-    (λ c. c .before .loop .inv .1) (λ c. c .before .loop .inv .2) (λ c. c .before .loop .inv .3) returns-2)
+    (λ c. c .before .before .before .loop .inv .1) (λ c. c .before .before .before .loop .inv .2)
+    (λ c. c .before .before .before .loop .inv .3) returns item-at-requires (λ c κs. tt) (λ c. search needs) sub-left loop-less
+    loop-again (λ c. c .before .loop .inv .1) (λ c. c .before .loop .inv .2) (λ c. c .before .loop .inv .3) returns-2)

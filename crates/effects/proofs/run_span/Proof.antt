@@ -32,4 +32,5 @@ run-span-spec =
     (tie.spec
     (λ c κs. c .before .before .before .before .pre .base-in) (λ c κs. search needs) (λ c. search needs) (λ c. search needs)
     (λ c. search needs) (λ c κs. c .before .before .before .before .before .before .pre .span-in) run-items-requires
-    (λ c. c .before .before .before .before .before .vars .given) (λ c. c .before .before .before .outs .given) (λ c. c .before .queue .given) returns)
+    (λ c. c .before .before .before .before .before .vars .given) (λ c. c .before .before .before .outs .given)
+    (λ c. c .before .queue .given) returns)
