@@ -88,10 +88,14 @@ returns c =
     (encode-long g (a .0) (b .0), all .laid)
 
 slice-aggregate-lay-heading : tie.Need-slice-aggregate-lay-heading
-slice-aggregate-lay-heading c = let ranked = c .before .before .before .before .before .before .before .before in sym (ranked .before .before .before .before .before .before .before .before .ors2 .given)
+slice-aggregate-lay-heading c =
+    let ranked = c .before .before .before .before .before .before .before .before in
+    sym (ranked .before .before .before .before .before .before .before .before .ors2 .given)
 
 slice-aggregate-lay-heading-2 : tie.Need-slice-aggregate-lay-heading-2
-slice-aggregate-lay-heading-2 c = let ranked = c .before .before .before .before .before .before .before in sym (ranked .before .before .before .before .before .before .before .ands2 .given)
+slice-aggregate-lay-heading-2 c =
+    let ranked = c .before .before .before .before .before .before .before in
+    sym (ranked .before .before .before .before .before .before .before .ands2 .given)
 
 slice-aggregate-lay-sections : tie.Need-slice-aggregate-lay-sections
 slice-aggregate-lay-sections c =

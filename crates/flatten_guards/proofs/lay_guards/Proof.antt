@@ -12,6 +12,17 @@ use Rattle.flatten_guards.proofs.Penned.{penned-both}
 use Rattle.flatten_guards.proofs.lay_guards.Statement.{statement}
 use Rattle.flatten_guards.proofs.lay_guards.Tie as tie
 
+lay-actives-requires : tie.Need-lay-actives-requires
+lay-actives-requires c κs =
+    let start = c .before .before .before .before .before .before in
+    (start .pre .0, start .pre .1, start .pre .2, start .pre .3, omega arith, omega arith)
+
+lay-takens-requires : tie.Need-lay-takens-requires
+lay-takens-requires c κs =
+    let start = c .before .before .before .before .before .before .before .before .before .before in
+    let active = c .before .before .before .lay-actives .ensures .1 in
+    (start .pre .0, start .pre .3, start .pre .4, omega (arith, active .0), omega (arith, active .1))
+
 lay-entries-requires : tie.Need-lay-entries-requires
 lay-entries-requires c κs =
     let earlier = c .before .before .before .before .before .before .before in
@@ -44,4 +55,4 @@ pub lay-guards-spec : {M : Type 1} → statement M
 lay-guards-spec =
     tie.close
     (tie.spec
-    (λ c κs. search needs) (λ c κs. search needs) lay-entries-requires (λ c. search needs) returns)
+    lay-actives-requires lay-takens-requires lay-entries-requires (λ c. search needs) returns)

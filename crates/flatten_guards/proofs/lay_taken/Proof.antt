@@ -4,6 +4,7 @@ use mathlib.Core.Path.{_≡_, sym, _∙_}
 use mathlib.Core.Bool.{true, false}
 use native.Mathlib.Omega.{arith}
 use denote.Ref.{now}
+use lib.Dec.{lit<}
 use Rattle.chart.specs.View.{view}
 use Rattle.flatten_meaning.specs.Flattened.{bare, takenLiterals}
 use Rattle.flatten_guards.proofs.Penned.{penned-none, penned-span, penned-literals, within-step}
@@ -49,9 +50,19 @@ returns-3 c =
       within-step (s .pen) 171 57 end (laid .1) (omega (arith, laid .1)),
     )
 
+put-taken-requires : tie.Need-put-taken-requires
+put-taken-requires c κs =
+    let start = c .before .before .before .before .before .before .before .before in
+    (start .pre .0, start .pre .1, start .pre .2, start .pre .3, lit< tt)
+
+put-taken-requires-2 : tie.Need-put-taken-requires-2
+put-taken-requires-2 c κs =
+    let start = c .before .before .before .before .before .before .before .before in
+    (start .pre .0, start .pre .1, start .pre .2, start .pre .3, omega arith)
+
 pub lay-taken-spec : {M : Type 1} → statement M
 lay-taken-spec =
     tie.close
     (tie.spec
-    (λ c κs. search needs) returns (λ c. search needs) (λ c κs. search needs) (λ c κs. search needs)
-    (λ c. search needs) returns-2 (λ c κs. search needs) (λ c κs. search needs) (λ c. search needs) returns-3)
+    (λ c κs. search needs) returns (λ c. search needs) put-taken-requires (λ c κs. search needs)
+    (λ c. search needs) returns-2 put-taken-requires-2 (λ c κs. search needs) (λ c. search needs) returns-3)

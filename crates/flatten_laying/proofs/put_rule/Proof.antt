@@ -56,6 +56,7 @@ put-rule-spec =
     (tie.spec
     (λ c κs. tt) (λ c. place-fits 1 (c .before .before .before .before .before .before .pre) (lit< tt)) (λ c κs. tt)
     (λ c. place-fits 2 (c .before .before .before .before .before .before .before .before .before .before .pre) (lit< tt)) (λ c κs. tt)
-    (λ c. place-fits 3 (c .before .before .before .before .before .before .before .before .before .before .before .before .before .before .pre) (lit< tt)) (λ c κs. tt)
+    (λ c. place-fits 3 (c .before .before .before .before .before .before .before .before .before .before .before .before .before .before .pre) (lit< tt))
+    (λ c κs. tt)
     add-put-4 (λ c κs. tt) add-put-5 (λ c κs. tt) add-result
     same-length returns)

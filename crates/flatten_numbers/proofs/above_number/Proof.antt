@@ -1,10 +1,12 @@
 -- `flatten_numbers::above_number` meets its contract: each branch is one of `aboveIn`. Assumes nothing.
 use borrow.Author.Needs.{needs}
-use mathlib.Core.Path.{_≡_, refl, sym, _∙_}
+use Prim.Native.Nat.{ℕ}
+use mathlib.Core.Path.{_≡_, refl, sym, ap, _∙_}
 use mathlib.Core.Bool.{true, false}
 use native.Mathlib.Omega.{arith}
 use denote.Ref.{now}
 use lib.Dec.{eqb}
+use lib.ListN.{getD}
 use Rattle.words.proofs.Tests.{eqb-yes, eqb-no}
 use Rattle.chart.specs.View.{view}
 use Rattle.chart_rules.proofs.Readable.{chart-needs}
@@ -39,7 +41,9 @@ returns-3 c =
     let up = c .before .before .before .before .state-word .ensures .0 in
     let below : eqb o (s .top) ≡ false = eqb-no (λ e. c .before .before .before .if1 .left (up ∙ e)) in
     let inner : eqb o 0 ≡ false = eqb-no (λ e. c .before .before .if2 .left (up ∙ e)) in
-    (rw (below, inner) cc, search needs)
+    let grandparent = c .before .state-word2 .ensures .0 ∙ ap (view (now (s .t)) .parent) up in
+    let cell = c .number .ensures .0 ∙ ap (λ (i : ℕ). getD (now (s .refers)) i 0) grandparent in
+    (rw (below, inner) cell, c .number .ensures .1)
 
 pub above-number-spec : {M : Type 1} → statement M
 above-number-spec =

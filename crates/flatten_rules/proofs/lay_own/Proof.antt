@@ -1,7 +1,7 @@
 -- `flatten_rules::lay_own` meets its contract: there is a rule where the transition has items. Assumes nothing.
 use borrow.Author.Needs.{needs}
 use Prim.Native.Nat.{ℕ, _+_}
-use mathlib.Core.Path.{_≡_, refl, ap, _∙_}
+use mathlib.Core.Path.{refl, sym, ap, _∙_}
 use native.Mathlib.Omega.{arith}
 use denote.Ref.{now}
 use lib.ListN.{getD}
@@ -17,7 +17,9 @@ use Rattle.flatten_rules.proofs.lay_own.Tie as tie
 returns : tie.Need-returns
 returns c =
     let s = c .before .before .before .before .before .before .before .args in
-    let none : view (now (s .t)) .does (s .k) .count ≡ 0 = cc in
+    let from = c .before .before .before .transition-at .ensures .0 in
+    let count = c .before .before .items-at .ensures .1 ∙ ap (λ (n : ℕ). getD (now (s .t)) (n + 4 + 1) 0) from in
+    let none = sym count ∙ c .if1 .taken in
     (rw (eqb-yes none) laid-none, omega arith)
 
 returns-2 : tie.Need-returns-2

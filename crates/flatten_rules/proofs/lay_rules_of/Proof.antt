@@ -13,6 +13,16 @@ use Rattle.flatten_rules.specs.Ruled.{ofExit, ofOwn, ofEntry}
 use Rattle.flatten_rules.proofs.lay_rules_of.Statement.{statement}
 use Rattle.flatten_rules.proofs.lay_rules_of.Tie as tie
 
+lay-exits-requires : tie.Need-lay-exits-requires
+lay-exits-requires c κs =
+    let start = c .before .before .before .before .before .before .before in
+    (start .pre .0, start .pre .1, start .pre .2, start .pre .5, start .pre .6, omega arith)
+
+lay-own-requires : tie.Need-lay-own-requires
+lay-own-requires c κs =
+    let start = c .before .before .before .before .before .before .before .before .before .before .before in
+    (start .pre .0, start .pre .1, start .pre .6, omega arith)
+
 lay-entries-requires : tie.Need-lay-entries-requires
 lay-entries-requires c κs =
     let earlier = c .before .before .before .before .before .before .before in
@@ -39,4 +49,4 @@ pub lay-rules-of-spec : {M : Type 1} → statement M
 lay-rules-of-spec =
     tie.close
     (tie.spec
-    (λ c κs. search needs) (λ c κs. search needs) lay-entries-requires (λ c. search needs) returns)
+    lay-exits-requires lay-own-requires lay-entries-requires (λ c. search needs) returns)
