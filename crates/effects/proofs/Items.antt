@@ -36,9 +36,6 @@ first-fits at some h = omega arith
 pub rest-fit : {k n : ℕ} (at : ℕ) → 0 < k → at + 3 * k ≤ n → at + 3 + 3 * (k - 1) ≤ n
 rest-fit at some h = omega arith
 
-pub fewer : {k : ℕ} → 0 < k → k - 1 < k
-fewer some = omega arith
-
 -- `count` items from item `first` on, where item 0 begins at `base`
 pub itemsFrom-many : (t : List ℕ) (base first count : ℕ)
     → itemsFrom t (base + 3 * first) count ≡ many (λ i. itemIn (tripleAt t (base + 3 * i))) first count

@@ -5,22 +5,8 @@ use native.Mathlib.Omega.{arith}
 use mir.Syntax.{w64}
 use mir.Val.{Fits}
 
-pub sum-fits : (a b : ℕ) → a < 65536 → b < 65536 → Fits w64 (a + b)
-sum-fits a b l m = record { fits = omega arith }
-
 pub bits-fit : (a : ℕ) → a < 65536 → Fits w64 (a / 16 + 1)
 bits-fit a l = record { fits = omega arith }
-
--- m is counted up to n
-module _ (m n : ℕ) (l : m < n) where
-  pub next-fits : n < 65536 → Fits w64 (m + 1)
-  next-fits h = record { fits = omega arith }
-
-  pub next-in : m + 1 ≤ n
-  next-in = omega arith
-
-  pub less-left : n - (m + 1) < n - m
-  less-left = omega arith
 
 -- n words are read, and v variables
 module _ (n v state : ℕ) (long : state ≡ n + v) where

@@ -9,13 +9,6 @@ use mir.Val.{Fits}
 pub room : (a k guards before after : ℕ) → a < k → k < guards → guards ≤ 16 * before → after ≡ before → a < 16 * after
 room a k guards before after smaller inside l same = omega arith
 
-pub room-kept : (guards before after : ℕ) → guards ≤ 16 * before → after ≡ before → guards ≤ 16 * after
-room-kept guards before after l same = omega arith
-
--- the first of a guard's two words is inside where the second is
-pub first-in : (r n : ℕ) → r + 1 < n → r < n
-first-in r n l = omega arith
-
 -- three words a literal
 pub thrice-fits : (i : ℕ) → i < 65536 → Fits w64 (3 * i)
 thrice-fits i l = record { fits = omega arith }
@@ -23,12 +16,9 @@ thrice-fits i l = record { fits = omega arith }
 pub place-fits : (base i : ℕ) → base < 65536 → i < 65536 → Fits w64 (base + 3 * i)
 place-fits base i h l = record { fits = omega arith }
 
--- one less is left
-pub one-less : (n : ℕ) → 0 < n → n - 1 < n
-one-less n l = omega arith
-
-pub less-left : (n k r : ℕ) → k < n → k + 1 ≤ r → n - r < n - k
-less-left n k r l m = omega arith
+-- less is left from r on than from k on
+pub less-beyond : (n k r : ℕ) → k < n → k + 1 ≤ r → n - r < n - k
+less-beyond n k r l m = omega arith
 
 pub one-more : (k : ℕ) → 0 < k → k ≡ suc (k - 1)
 one-more k l = omega arith
@@ -38,7 +28,3 @@ none-left k l = omega arith
 
 pub less-one-in : (k n : ℕ) → 0 < k → k ≤ n → k - 1 < n
 less-one-in k n l m = omega arith
-
--- the number behind one that is below a word is a number of the machine
-pub next-fits : (k n : ℕ) → k < n → n < 65536 → Fits w64 (k + 1)
-next-fits k n l m = record { fits = omega arith }

@@ -3,10 +3,6 @@ use Prim.Native.Nat.{ℕ, _+_, _*_, _-_, _<_, _≤_}
 use mathlib.Core.Path.{_≡_}
 use native.Mathlib.Omega.{arith}
 
--- as many marks as before have room for the guards
-pub room : (guards before after : ℕ) → guards ≤ 16 * before → after ≡ before → guards ≤ 16 * after
-room guards before after l same = omega arith
-
 -- a state is words and behind them variables
 module _ (state words vars : ℕ) (long : state ≡ words + vars) where
   pub words-in : (after : ℕ) → after ≡ words → after ≤ state
@@ -35,8 +31,5 @@ pub from-0 : (n m : ℕ) → n ≤ m → 0 + n ≤ m
 from-0 n m l = omega arith
 
 -- less is left
-pub one-less : (n : ℕ) → 0 < n → n - 1 < n
-one-less n l = omega arith
-
 pub all-lent : (n k : ℕ) → k < n → n - n < n - k
 all-lent n k l = omega arith

@@ -19,10 +19,6 @@ use Rattle.flat_rules.proofs.Readable.{flat-readable}
 pub rule-word : (t : List ℕ) (k r i w : ℕ) → r ≡ ruleAt t k → w ≡ at t (r + i) → w ≡ at t (ruleAt t k + i)
 rule-word t k r i w e read = read ∙ ap (λ (x : ℕ). at t (x + i)) e
 
--- room is kept where a length is
-pub room : (before after guards : ℕ) → after ≡ before → guards ≤ 16 * before → guards ≤ 16 * after
-room before after guards same l = omega arith
-
 -- a rule has six words
 pub rule-in : (t : List ℕ) → FlatReadable t → (k : ℕ) → k < flatView t .rules → (r i : ℕ) → r ≡ ruleAt t k → i < 6 → r + i < length t
 rule-in t can k h r i e l = omega (arith, can .rules)

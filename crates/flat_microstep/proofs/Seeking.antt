@@ -68,9 +68,6 @@ in-turn n j l = omega arith
 pub four-less : (n j : ℕ) → j + 3 < n → n - (j + 4) < n - j
 four-less n j l = omega arith
 
-pub one-less : (n j : ℕ) → j < n → n - (j + 1) < n - j
-one-less n j l = omega arith
-
 -- the rules of a turn are there to be read
 module _ (t : List ℕ) (can : FlatReadable t) (n j r : ℕ) (inside : n ≤ flatView t .rules) (place : r ≡ ruleAt t j) where
   pub rule-there : j < n → FlatReadable t × (j < flatView t .rules) × (r ≡ ruleAt t j)

@@ -20,10 +20,7 @@ use Rattle.flat_rules.specs.Tests.{goodMachine?, goodFlatState?, goodMac
 use Rattle.flat_rules.specs.Tests.{flatItemKept, goodFlatTarget?, goodNames?, goodRule?}
 
 -- ---- where words are
--- of two, three, and six words
-pub first-of-two : (r n : ℕ) → r + 1 < n → r < n
-first-of-two r n l = omega arith
-
+-- of three and six words
 module _ (r n : ℕ) (l : r + 2 < n) where
   pub first-of-three : r < n
   first-of-three = omega arith
@@ -42,21 +39,9 @@ module _ (r n : ℕ) (l : r + 5 < n) where
 pub in-span : (first count size i m n : ℕ) → m ≡ first → n ≡ count → first + count ≤ size → i < n → m + i < size
 in-span first count size i m n e d l h = omega arith
 
-pub next-in : (i n : ℕ) → i < n → i + 1 ≤ n
-next-in i n l = omega arith
-
-pub less-left : (i n : ℕ) → i < n → n - (i + 1) < n - i
-less-left i n l = omega arith
-
--- sums of two words are numbers of the machine, and what is behind a number below a word
-pub sum-fits : (a b : ℕ) → a < 65536 → b < 65536 → Fits w64 (a + b)
-sum-fits a b l m = record { fits = omega arith }
-
+-- where a number below a word is added to a word
 pub place-fits : (a i n : ℕ) → a < 65536 → i < n → n < 65536 → Fits w64 (a + i)
 place-fits a i n l m h = record { fits = omega arith }
-
-pub next-fits : (i n : ℕ) → i < n → n < 65536 → Fits w64 (i + 1)
-next-fits i n l m = record { fits = omega arith }
 
 -- ---- rule 14
 pub behind-machines : (p n machines states : ℕ) → n ≡ machines → n ≤ p → p < machines + states → p - n < states

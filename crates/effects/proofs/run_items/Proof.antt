@@ -3,8 +3,9 @@ use Prim.Native.Nat.{_+_, _*_, _≤_}
 use mathlib.Core.Path.{_≡_, refl, sym, _∙_}
 use borrow.Author.Needs.{needs}
 use lib.ListN.{length}
+use Rattle.words.proofs.Counting.{one-less}
 use Rattle.effects.specs.Work.{work, doItems, itemsFrom}
-use Rattle.effects.proofs.Items.{step, stop, done, first-fits, rest-fit, fewer}
+use Rattle.effects.proofs.Items.{step, stop, done, first-fits, rest-fit}
 use Rattle.effects.proofs.run_items.Statement.{statement}
 use Rattle.effects.proofs.run_items.Tie as tie
 
@@ -33,7 +34,7 @@ sub-left : tie.Need-sub-left Inv-loop μ-loop
 sub-left c = c .before .before .before .before .before .before .before .before .before .before .before .before .before .loop-test .taken
 
 loop-less : tie.Need-loop-less Inv-loop μ-loop
-loop-less c = fewer (c .before .before .before .before .before .before .before .before .before .before .before .before .before .loop-test .taken)
+loop-less c = one-less _ (c .before .before .before .before .before .before .before .before .before .before .before .before .before .loop-test .taken)
 
 loop-again : tie.Need-loop-again Inv-loop μ-loop
 loop-again c =

@@ -6,12 +6,12 @@ use mathlib.Core.Path.{_≡_, refl, sym, ap, _∙_}
 use mathlib.Core.Bool.{true}
 use lib.Dec.{lit<}
 use denote.Ref.{now}
+use Rattle.words.proofs.Counting.{next-in, less-left, next-fits}
 use Rattle.words.specs.Loops.{allBelow}
 use Rattle.words.proofs.Loops.{allBelow-next, allBelow-no}
 use Rattle.flat.specs.View.{flatView, ofMachine?}
 use Rattle.flat_rules.proofs.Readable.{flat-readable}
 use Rattle.flat_meaning.specs.State.{goodFlatWord?}
-use Rattle.flat_engine.proofs.Lengths.{next-fits, next-in, less-left}
 use Rattle.flat_engine.proofs.good_words.Statement.{statement}
 use Rattle.flat_engine.proofs.good_words.Tie as tie
 

@@ -5,12 +5,13 @@ use lib.Dec.{lit<}
 use denote.Ref.{now}
 use lib.ListN.{length, take}
 use lib.Seq.{length-take-le}
+use Rattle.words.proofs.Counting.{sum-fits}
 use Rattle.words.specs.Loops.{allBelow}
 use Rattle.words.proofs.Tests.{eqb-yes, eqb-no}
 use Rattle.flat.specs.View.{flatView}
 use Rattle.flat_rules.proofs.Readable.{flat-readable}
 use Rattle.flat_meaning.specs.State.{flatLength, goodFlatWord?, flatStateOf?}
-use Rattle.flat_engine.proofs.Lengths.{sum-fits, words-in}
+use Rattle.flat_engine.proofs.Lengths.{words-in}
 use Rattle.flat_engine.proofs.is_state.Statement.{statement}
 use Rattle.flat_engine.proofs.is_state.Tie as tie
 

@@ -4,11 +4,11 @@ use native.Mathlib.Nat.{le-of-eq, le-trans, le-antisymm, lt-of-lt-of-le}
 use mathlib.Core.Path.{_∙_}
 use lib.Dec.{lit<}
 use denote.Ref.{now}
+use Rattle.words.proofs.Counting.{next-in, less-left, next-fits}
 use Rattle.flat.specs.View.{flatView}
 use Rattle.flat_rules.proofs.Readable.{flat-readable}
 use Rattle.flat_meaning.specs.State.{flatStartWords}
 use Rattle.flat_engine.proofs.Laid.{Front, lay-start, lay-next, lay-end, front-length}
-use Rattle.flat_engine.proofs.Lengths.{next-fits, next-in, less-left}
 use Rattle.flat_engine.proofs.lay_initials.Statement.{statement}
 use Rattle.flat_engine.proofs.lay_initials.Tie as tie
 

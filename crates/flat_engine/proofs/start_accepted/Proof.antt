@@ -9,6 +9,7 @@ use lib.Dec.{lit<, lit≤}
 use denote.Ref.{now}
 use lib.ListN.{length, take, drop, length-append, length-drop}
 use lib.Seq.{take-at}
+use Rattle.words.proofs.Counting.{sum-fits}
 use Rattle.words.proofs.Tests.{eqb-yes, eqb-no}
 use Rattle.table.specs.declared.Verdict.the-variants.{Done}
 use Rattle.effects.specs.Lent.{zeros, startTold}
@@ -17,7 +18,7 @@ use Rattle.flat_rules.proofs.Readable.{flat-readable}
 use Rattle.flat_meaning.specs.State.{flatLength, flatStartWords, flatStartState}
 use Rattle.flat_meaning.specs.Calls.{flatStartedOn}
 use Rattle.flat_meaning.proofs.State.{start-owned}
-use Rattle.flat_engine.proofs.Lengths.{sum-fits, words-in}
+use Rattle.flat_engine.proofs.Lengths.{words-in}
 use Rattle.flat_engine.proofs.start_accepted.Statement.{statement}
 use Rattle.flat_engine.proofs.start_accepted.Tie as tie
 

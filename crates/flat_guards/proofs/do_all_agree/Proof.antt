@@ -5,10 +5,11 @@ use native.Mathlib.Nat.{lt-trans}
 use mathlib.Core.Path.{refl, sym}
 use lib.Dec.{lit<}
 use denote.Ref.{now}
+use Rattle.words.proofs.Counting.{one-less, first-of-two}
 use Rattle.flat_rules.proofs.Readable.{flat-readable}
 use Rattle.marks.specs.Bits.{marked}
 use Rattle.flat_guards.specs.Parts.{agrees, allAgree}
-use Rattle.flat_guards.proofs.Room.{room, first-in, thrice-fits, place-fits, one-less}
+use Rattle.flat_guards.proofs.Room.{room, thrice-fits, place-fits}
 use Rattle.flat_guards.proofs.Spans.{Walk, walk-start, walk-end, walk-next-fits, walk-reads, walk-place-fits}
 use Rattle.flat_guards.proofs.Spans.{walk-smaller, walk-bad, walk-good}
 use Rattle.flat_guards.proofs.do_all_agree.Statement.{statement}
@@ -70,7 +71,7 @@ do-all-agree-spec =
     tie.close
     (tie.spec
     Inv-loop μ-loop (λ c κs. (flat-readable (c .before .before .pre .0), c .before .before .pre .1))
-    (λ c κs. first-in _ _ (c .guard-at .ensures .1))
+    (λ c κs. first-of-two _ _ (c .guard-at .ensures .1))
     (λ c κs. (flat-readable (c .before .before .before .before .pre .0), lit< tt)) (λ c. thrice-fits _ (c .before .number-in .ensures .1))
     (λ c. place-fits _ _ (c .head .ensures .1) (c .before .number-in .ensures .1))
     (λ c. record {

@@ -7,10 +7,12 @@ use mathlib.Core.Bool.{true≢false}
 use lib.Dec.{lit<}
 use denote.Ref.{now}
 use lib.ListN.{length}
+use Rattle.marks.proofs.Room.{room-kept}
+use Rattle.words.proofs.Counting.{one-less, first-of-two}
 use Rattle.flat.specs.View.{flatView}
 use Rattle.flat_rules.proofs.Readable.{flat-readable}
 use Rattle.flat_guards.specs.Parts.{fits, allFit}
-use Rattle.flat_guards.proofs.Room.{room, room-kept, first-in, thrice-fits, place-fits, one-less}
+use Rattle.flat_guards.proofs.Room.{room, thrice-fits, place-fits}
 use Rattle.flat_guards.proofs.Spans.{
   Walk,
   span-first,
@@ -116,7 +118,7 @@ do-all-fit-spec =
     Inv-loop μ-loop (λ c κs. (
       flat-readable (c .before .before .before .before .pre .0),
       c .before .before .before .before .pre .1,
-    )) (λ c κs. first-in _ _ (c .guard-at .ensures .1))
+    )) (λ c κs. first-of-two _ _ (c .guard-at .ensures .1))
     (λ c κs. (flat-readable (c .before .before .before .before .before .before .pre .0), lit< tt))
     (λ c. thrice-fits _ (c .before .number-in .ensures .1))
     (λ c. place-fits _ _ (c .head .ensures .1) (c .before .number-in .ensures .1))

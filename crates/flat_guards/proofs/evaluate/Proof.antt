@@ -1,8 +1,8 @@
 -- `flat_guards::evaluate` meets its contract: what is sifted, and then settled, is true. Assumes nothing.
 use mathlib.Core.Path.{_∙_}
 use denote.Ref.{now}
+use Rattle.marks.proofs.Room.{room-kept}
 use Rattle.flat.specs.View.{flatView}
-use Rattle.flat_guards.proofs.Room.{room-kept}
 use Rattle.flat_guards.proofs.Settling.{settled-value}
 use Rattle.flat_guards.proofs.evaluate.Statement.{statement}
 use Rattle.flat_guards.proofs.evaluate.Tie as tie

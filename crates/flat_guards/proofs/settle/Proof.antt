@@ -7,11 +7,13 @@ use mathlib.Core.Logic.{⊎-elim}
 use lib.Dec.{lit<}
 use denote.Ref.{now}
 use lib.ListN.{length}
+use Rattle.marks.proofs.Room.{room-kept}
+use Rattle.words.proofs.Counting.{next-fits}
 use Rattle.flat.specs.View.{flatView}
 use Rattle.flat_rules.proofs.Readable.{flat-readable}
 use Rattle.marks.specs.Bits.{marked}
 use Rattle.flat_guards.specs.Parts.{allAgree}
-use Rattle.flat_guards.proofs.Room.{room-kept, next-fits, less-left}
+use Rattle.flat_guards.proofs.Room.{less-beyond}
 use Rattle.flat_guards.proofs.Tried.{Tried, tried-stays, tried-goes}
 use Rattle.flat_guards.proofs.Settling.{Settled, settled-none, settled-past, settled-on}
 use Rattle.flat_guards.proofs.settle.Statement.{statement}
@@ -47,7 +49,7 @@ next-requires-2 c κs =
     (room-kept _ (length (turn .loop .marks)) _ (le-trans (le-of-eq (n .0)) (room turn)) long, n .1)
 
 loop-less : tie.Need-loop-less Inv-loop μ-loop
-loop-less c = less-left _ _ _ (c .before .before .before .before .before .loop-test .taken) (c .next2 .ensures .from)
+loop-less c = less-beyond _ _ _ (c .before .before .before .before .before .loop-test .taken) (c .next2 .ensures .from)
 
 loop-again : tie.Need-loop-again Inv-loop μ-loop
 loop-again c =

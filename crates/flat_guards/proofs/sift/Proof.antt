@@ -7,11 +7,13 @@ use mathlib.Core.Logic.{⊎-elim}
 use lib.Dec.{lit<}
 use denote.Ref.{now}
 use lib.ListN.{length}
+use Rattle.marks.proofs.Room.{room-kept}
+use Rattle.words.proofs.Counting.{one-less}
 use Rattle.flat.specs.View.{flatView}
 use Rattle.flat_rules.proofs.Readable.{flat-readable}
 use Rattle.marks.specs.Bits.{marked}
 use Rattle.flat_guards.specs.Parts.{allFit}
-use Rattle.flat_guards.proofs.Room.{room-kept, one-less, less-one-in, one-more, none-left}
+use Rattle.flat_guards.proofs.Room.{less-one-in, one-more, none-left}
 use Rattle.flat_guards.proofs.Tried.{Tried, tried-stays, tried-goes}
 use Rattle.flat_guards.proofs.Sifting.{Gone, gone-none, gone-past, gone-on, gone-kept, gone-sifted}
 use Rattle.flat_guards.proofs.sift.Statement.{statement}

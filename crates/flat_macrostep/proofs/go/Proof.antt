@@ -6,12 +6,13 @@ use native.Mathlib.Omega.{arith}
 use lib.Dec.{lit<}
 use denote.Ref.{now}
 use lib.ListN.{length}
+use Rattle.marks.proofs.Room.{room-kept}
+use Rattle.words.proofs.Counting.{one-less}
 use Rattle.effects.specs.declared.Progress.{Progress}
 use Rattle.effects.specs.Work.{going, turns}
 use Rattle.flat.specs.View.{flatView}
 use Rattle.flat_meaning.specs.Steps.{flatMachine}
 use Rattle.macrostep.proofs.Turns.{ends, goes-on, runs-out}
-use Rattle.flat_macrostep.proofs.Lengths.{room, one-less}
 use Rattle.flat_macrostep.proofs.go.Statement.{statement}
 use Rattle.flat_macrostep.proofs.go.Tie as tie
 
@@ -35,7 +36,7 @@ run-requires : tie.Need-run-requires Inv-loop μ-loop
 run-requires c κs =
     let pre = c .before .before .before .before .before .before .before .before .before .before .before .before .before .before .pre in
     let i = c .before .before .before .before .before .before .loop .inv in
-    (pre .0, room _ _ _ (pre .1) (i .0), i .1 ∙ pre .2)
+    (pre .0, room-kept _ _ _ (pre .1) (i .0), i .1 ∙ pre .2)
 
 returns : tie.Need-returns Inv-loop μ-loop
 returns c =

@@ -8,6 +8,7 @@ use mathlib.Core.List.{List, _++_}
 use denote.Ref.{now}
 use lib.ListN.{length, take, drop}
 use lib.Seq.{length-take-le}
+use Rattle.marks.proofs.Room.{room-kept}
 use Rattle.words.proofs.Tests.{by-bool, clash}
 use Rattle.effects.specs.declared.Progress.{Progress}
 use Rattle.effects.specs.Run.{Result, St, macrostep}
@@ -19,7 +20,7 @@ use Rattle.flat_meaning.proofs.Small.{flat-machine-small, flat-machine-tame}
 use Rattle.macrostep.specs.Ends.{told?, handed, Ends}
 use Rattle.macrostep.proofs.Passes.{kept-enough, Before, untried, tried, before-fits}
 use Rattle.macrostep.proofs.Passed.{told-pass, stop-pass, again-pass}
-use Rattle.flat_macrostep.proofs.Lengths.{room, from-0, all-lent}
+use Rattle.flat_macrostep.proofs.Lengths.{from-0, all-lent}
 use Rattle.flat_macrostep.proofs.pass.Statement.{statement}
 use Rattle.flat_macrostep.proofs.pass.Tie as tie
 
@@ -63,7 +64,7 @@ attempt-requires c κs =
     let i = c .before .before .before .before .before .loop .inv in (
       pre .0,
       record {
-        bits = room _ _ _ (sized .bits) (i .0);
+        bits = room-kept _ _ _ (sized .bits) (i .0);
         next-long = i .1 ∙ sized .next-long;
         few = le-trans (le-of-eq (i .1)) (sized .few);
         state-long = sized .state-long ∙ sym (ap₂ _+_ (i .1) (i .2));

@@ -7,9 +7,10 @@ use mir.Syntax.{w64}
 use mir.Val.{Fits}
 use mathlib.Core.Path.{_∙_}
 use denote.Ref.{now}
+use Rattle.marks.proofs.Room.{room-kept}
 use Rattle.flat.specs.View.{flatView}
 use Rattle.flat_rules.proofs.Readable.{flat-readable}
-use Rattle.flat_microstep.proofs.Inside.{room, rule-word, rule-in, first-fits, second-fits}
+use Rattle.flat_microstep.proofs.Inside.{rule-word, rule-in, first-fits, second-fits}
 use Rattle.flat_microstep.proofs.Asking.{both-marked, one-marked}
 use Rattle.flat_microstep.proofs.ask_one.Statement.{statement}
 use Rattle.flat_microstep.proofs.ask_one.Tie as tie
@@ -39,7 +40,7 @@ add-requires-2 c κs =
     let p = rule .before .before .before in
     let s = p .args in
     let second = rule-word (now (s .t)) (s .k) _ 2 _ (rule .rule-at .ensures .0) (read .number-in2 .ensures .0) in
-    second-fits (now (s .t)) (p .pre .0) (s .k) (p .pre .1) _ _ second (room _ _ _ marks (p .pre .2))
+    second-fits (now (s .t)) (p .pre .0) (s .k) (p .pre .1) _ _ second (room-kept _ _ _ (p .pre .2) marks)
 
 returns : tie.Need-returns
 returns c =
@@ -54,7 +55,7 @@ returns c =
     both-marked (flatView t) (s .k) _ _ first second _ _ _
     (first-fits t (p .pre .0) (s .k) (p .pre .1) _ _ first (p .pre .2)) (added .add .ensures)
     (second-fits t (p .pre .0) (s .k) (p .pre .1) _ _ second
-    (room _ _ _ (c .before .before .before .before .before .before .marks .given) (p .pre .2))) (c .before .before .add2 .ensures)
+    (room-kept _ _ _ (p .pre .2) (c .before .before .before .before .before .before .marks .given))) (c .before .before .add2 .ensures)
 
 returns-2 : tie.Need-returns-2
 returns-2 c =

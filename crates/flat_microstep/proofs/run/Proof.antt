@@ -6,12 +6,12 @@ use mathlib.Core.Path.{ap, subst, _∙_}
 use mathlib.Core.List.{List}
 use lib.Dec.{lit<}
 use denote.Ref.{now}
+use Rattle.marks.proofs.Room.{room-kept}
 use Rattle.effects.specs.Run.{Step}
 use Rattle.effects.specs.Work.{going, doSteps}
 use Rattle.flat.specs.View.{flatView}
 use Rattle.flat_rules.proofs.Readable.{flat-readable}
 use Rattle.flat_meaning.specs.Steps.{flatMachine}
-use Rattle.flat_microstep.proofs.Inside.{room}
 use Rattle.flat_microstep.proofs.Firing.{machine-fires, machine-idle}
 use Rattle.flat_microstep.proofs.run.Statement.{statement}
 use Rattle.flat_microstep.proofs.run.Tie as tie
@@ -31,7 +31,7 @@ ask-requires c κs =
     let sought = cleared .before .before .before in
     let head = sought .before in
     let pre = head .before .before .before .before .before .before .before .before .before .pre in
-    (pre .0, room _ _ _ (cleared .marks .given) (pre .1), rw (← head .head .ensures .0) (sought .seek .ensures))
+    (pre .0, room-kept _ _ _ (pre .1) (cleared .marks .given), rw (← head .head .ensures .0) (sought .seek .ensures))
 
 -- the marks are cleared, guards are asked for, and told: there are as many as before
 evaluate-requires : tie.Need-evaluate-requires
@@ -39,7 +39,7 @@ evaluate-requires c κs =
     let asked = c .before .before .before .before in
     let cleared = asked .before .before .before .before in
     let pre = cleared .before .before .before .before .before .before .before .before .before .before .before .before .before .pre in
-    (pre .0, room _ _ _ (asked .marks2 .given ∙ cleared .marks .given) (pre .1), pre .2)
+    (pre .0, room-kept _ _ _ (pre .1) (asked .marks2 .given ∙ cleared .marks .given), pre .2)
 
 fire-all-requires : tie.Need-fire-all-requires
 fire-all-requires c κs =
@@ -47,7 +47,7 @@ fire-all-requires c κs =
     let asked = told .before .before .before .before .before .before in
     let cleared = asked .before .before .before .before in
     let pre = cleared .before .before .before .before .before .before .before .before .before .before .before .before .before .pre in
-    (pre .0, room _ _ _ (told .marks3 .given ∙ asked .marks2 .given ∙ cleared .marks .given) (pre .1), asked .before .ask .ensures .0)
+    (pre .0, room-kept _ _ _ (pre .1) (told .marks3 .given ∙ asked .marks2 .given ∙ cleared .marks .given), asked .before .ask .ensures .0)
 
 same-length : tie.Need-same-length
 same-length c =

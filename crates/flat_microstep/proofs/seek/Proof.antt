@@ -8,6 +8,7 @@ use lib.Dec.{lit<, lit≤}
 use mir.Syntax.{w64}
 use mir.Val.{Fits}
 use denote.Ref.{now}
+use Rattle.words.proofs.Counting.{less-left}
 use Rattle.flat.specs.View.{flatView, ruleAt}
 use Rattle.words.proofs.Skip.{None}
 use Rattle.flat_microstep.specs.Stretch.{has?}
@@ -23,7 +24,6 @@ use Rattle.flat_microstep.proofs.Seeking.{
   on-by-one,
   in-turn,
   four-less,
-  one-less,
   rule-there,
   rules-there,
 }
@@ -222,5 +222,5 @@ seek-spec =
     (c .before .before .before .before .before .before .before .before .before .loop .j)
     (c .before .before .before .before .before .before .before .before .loop-test .taken)) loop-again (λ c. c .before .loop .inv)
     is-for-requires-5 returns-5 add-j-2 add-at-3
-    (λ c. one-less (c .before .before .before .before .before .before .before .before .args .n)
-    (c .before .before .before .loop2 .j) (c .before .before .loop2-test .taken)) loop2-again returns-6)
+    (λ c. less-left (c .before .before .before .loop2 .j)
+    (c .before .before .before .before .before .before .before .before .args .n) (c .before .before .loop2-test .taken)) loop2-again returns-6)

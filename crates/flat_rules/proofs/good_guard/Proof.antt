@@ -6,11 +6,12 @@ use mathlib.Core.Path.{_≡_, refl, sym, ap, _∙_}
 use mathlib.Core.Bool.{Bool, true}
 use lib.ListN.{getD}
 use denote.Ref.{now}
+use Rattle.words.proofs.Counting.{next-in, less-left, next-fits, first-of-two}
 use Rattle.words.specs.Loops.{allBelow}
 use Rattle.words.proofs.Loops.{allBelow-next, allBelow-no}
 use Rattle.flat.specs.View.{Flat, flatView}
 use Rattle.flat_rules.specs.Tests.{flatLiteralKept, goodGuard?}
-use Rattle.flat_rules.proofs.Read.{first-of-two, in-span, next-in, less-left, place-fits, next-fits}
+use Rattle.flat_rules.proofs.Read.{in-span, place-fits}
 use Rattle.flat_rules.proofs.good_guard.Statement.{statement}
 use Rattle.flat_rules.proofs.good_guard.Tie as tie
 

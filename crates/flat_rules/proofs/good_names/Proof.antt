@@ -1,8 +1,9 @@
 -- `flat_rules::good_names` meets its contract: what it returns is what its callees say. Assumes nothing.
 use lib.Dec.{lit<}
 use denote.Ref.{now}
+use Rattle.words.proofs.Counting.{sum-fits}
 use Rattle.flat.specs.View.{flatView}
-use Rattle.flat_rules.proofs.Read.{sum-fits, names-read}
+use Rattle.flat_rules.proofs.Read.{names-read}
 use Rattle.flat_rules.proofs.good_names.Statement.{statement}
 use Rattle.flat_rules.proofs.good_names.Tie as tie
 
