@@ -1,6 +1,8 @@
 // What the calls answer, and answers taken apart: the number and the place that 01's table "What a call can say" gives an answer,
 // what a run or a flattening says without its counts, and its counts. A check and a start answer with `table::Verdict`. specs/Parts.antt has the definitions; 01's numbers themselves are
 // those of `told` in table/specs/Answers.antt.
+#![tactic(auto)]
+
 ghost use Rattle.std.specs.Prelude.{◌≡◌};
 ghost use Rattle.table.specs.Answers.{refusal_told, told};
 ghost use Rattle.answers.specs.Parts.{verdict_of, counts_of, flat_verdict_of, flat_counts_of, flatten_verdict_of, table_words_of};
@@ -8,14 +10,14 @@ ghost use Rattle.answers.specs.Parts.{verdict_of, counts_of, flat_verdict_of, fl
 use table::{Refusal, Verdict};
 
 // What a run of a chart says: done with its counts, or refused.
-#[derive(Drop)]
+#[derive(Clone, Copy)]
 pub enum ChartRun {
     Done(Counts),
     Refused(Refusal),
 }
 
 // What a finished macrostep of a chart counted.
-#[derive(Drop)]
+#[derive(Clone, Copy)]
 pub struct Counts {
     pub microsteps: u32,
     pub taken: u32,
@@ -25,14 +27,14 @@ pub struct Counts {
 }
 
 // What a run of a flat table says: done with its counts, or refused.
-#[derive(Drop)]
+#[derive(Clone, Copy)]
 pub enum FlatRun {
     Done(FlatCounts),
     Refused(Refusal),
 }
 
 // What a finished macrostep of a flat table counted.
-#[derive(Drop)]
+#[derive(Clone, Copy)]
 pub struct FlatCounts {
     pub microsteps: u32,
     pub fired: u32,
@@ -40,14 +42,14 @@ pub struct FlatCounts {
 }
 
 // What flattening says: done with the number of words written, or refused.
-#[derive(Drop)]
+#[derive(Clone, Copy)]
 pub enum Flattening {
     Done(u32),
     Refused(Refusal),
 }
 
 // An answer's number and its place.
-#[derive(Drop)]
+#[derive(Clone, Copy)]
 struct Answer(u32, u32);
 
 // The number and the place of a refusal: a row of 01's table "What a call can say".

@@ -2,6 +2,8 @@
 // answer, and writes its place and its counts into a report of eight words, as far as they are lent.
 // include/olivrescum.h is the C side. specs/Calls.antt says what is promised, `reports` what numbers an answer has; the module
 // `theorems` says that the promises leave one outcome.
+#![tactic(auto)]
+
 mod theorems;
 
 ghost use Rattle.capi.specs.Calls.{ChartCheckedForC, ChartStartedForC, ChartRanForC, ChartFlattenedForC};

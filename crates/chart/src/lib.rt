@@ -1,6 +1,8 @@
 // The chart table: its layout, the reading of its records, and its tree of states. It judges nothing: every function here
 // takes any table whose sections lie inside it, and so tests no index. specs/View.antt says what chart the words show,
 // specs/Readable.antt what a table must be to be read.
+#![tactic(auto)]
+
 ghost use Rattle.std.specs.Prelude.{◌≡◌, ◌+◌, ◌*◌, ◌<◌, length};
 ghost use Rattle.table.specs.Layout.{at};
 ghost use Rattle.chart.specs.View.{view, is_and, and_state?, child_of?, state_at, transition_at};
@@ -125,7 +127,7 @@ pub fn target_word(t: &[u16], i: usize) -> usize
 }
 
 // What a literal asks: a state active or not, a variable at least or less than a number.
-#[derive(Drop)]
+#[derive(Clone, Copy)]
 pub enum Literal {
     Active(u16),
     NotActive(u16),

@@ -1,4 +1,6 @@
 // The or-states of an accepted chart with the places of their words, its active states, and what is below a state.
+#![tactic(auto)]
+
 ghost use Rattle.std.specs.Prelude.{◌≡◌, true, false, ◌||◌, cond, ℕ, suc, ◌+◌, ◌<◌, ◌≤◌, length, get_or, eqb};
 ghost use Rattle.chart.specs.View.{view};
 ghost use Rattle.chart.specs.Readable.{Readable};

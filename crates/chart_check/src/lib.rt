@@ -1,6 +1,8 @@
 // The check of a chart table: rule 9, on targets; a walk over each record, once, which accepts; and for a table that is not
 // accepted the search for the lowest rule that is broken, at its lowest place. It takes any words at all. specs/Answer.antt
 // says how a table is answered.
+#![tactic(auto)]
+
 ghost use Rattle.std.specs.Prelude.{◌≡◌, true, ◌+◌, ◌<◌, ◌≤◌};
 ghost use Rattle.words.specs.Loops.{all_below};
 ghost use Rattle.table.specs.Answers.{told};

@@ -1,4 +1,6 @@
 // The chart engine: the calls that start and run a chart. It takes any table, state, event and words for outputs.
+#![tactic(auto)]
+
 ghost use Rattle.std.specs.Prelude.{◌≡◌};
 ghost use Rattle.table.specs.Answers.{told};
 ghost use Rattle.effects.specs.Lent.{start_told};

@@ -1,4 +1,6 @@
 // The states that a transition enters. Every function is for an accepted chart.
+#![tactic(auto)]
+
 ghost use Rattle.std.specs.Prelude.{◌≡◌, true, false, not, ◌&&◌, ◌||◌, ℕ, ◌+◌, ◌<◌, get_or, eqb};
 ghost use Rattle.words.specs.Loops.{any};
 ghost use Rattle.chart.specs.View.{view, child_of?};

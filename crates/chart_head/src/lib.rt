@@ -1,5 +1,7 @@
 // The tests of document 01's rules 1 to 3 for a chart table: its form, of any words at all, and where they have a header its
 // counts and its layout. specs/Rules.antt says the rules in words, specs/Tests.antt as tests.
+#![tactic(auto)]
+
 ghost use Rattle.std.specs.Prelude.{◌≡◌, ◌≤◌, length};
 ghost use Rattle.chart.specs.View.{view};
 ghost use Rattle.chart_head.specs.Tests.{good_form?, tree_counts?, name_counts?, list_counts?, good_counts?};

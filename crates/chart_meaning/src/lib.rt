@@ -1,5 +1,7 @@
 // What is proved of the meaning of charts. Each function does nothing: its contract is the theorem. specs/Theorems.antt
 // has the statements.
+#![tactic(auto)]
+
 ghost use Rattle.chart_meaning.specs.Theorems.{Configured, StartIsState, RunLeavesState, ScopeIsNearest};
 ghost use Rattle.chart_meaning.specs.Theorems.{StateHasChildren, MicrostepKeepsChildren, SameInTurn};
 ghost use Rattle.chart_meaning.specs.Examples.{Examples};

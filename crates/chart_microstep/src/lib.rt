@@ -1,5 +1,7 @@
 // A microstep of an accepted chart: the transitions that are taken, one after another. The specs of `chart_meaning` say which steps
 // a microstep has; here they are gone through.
+#![tactic(auto)]
+
 ghost use Rattle.std.specs.Prelude.{◌≡◌, false, cond, List, [], ℕ, ◌<◌, get_or};
 ghost use Rattle.words.specs.Loops.{join_up};
 ghost use Rattle.effects.specs.Work.{going, do_step, do_steps};

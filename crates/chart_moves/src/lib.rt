@@ -1,4 +1,6 @@
 // The steps of one transition of an accepted chart: states are left, its own items run, states are entered.
+#![tactic(auto)]
+
 ghost use Rattle.std.specs.Prelude.{◌≡◌, true, false, List, ℕ, ◌<◌, get_or};
 ghost use Rattle.words.specs.Loops.{when};
 ghost use Rattle.effects.specs.Work.{going, do_step, do_steps};

@@ -10,4 +10,4 @@ pub chart_readable : {t : List ℕ} → ChartRules t → Readable t
 chart_readable g = readable g.form g.counts g.layout
 
 -- what `search` is handed where a chart is accepted
-pub ruleset chart-needs = (rules, chart_readable)
+pub ruleset chart_needs = (rules, chart_readable)

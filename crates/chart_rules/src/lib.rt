@@ -1,5 +1,7 @@
 // The tests of document 01's rules 4 to 8 for a chart table, one function for each rule and place. They take any
 // table that keeps rules 1 to 3. specs/Rules.antt says the rules in words, specs/Tests.antt as tests.
+#![tactic(auto)]
+
 ghost use Rattle.std.specs.Prelude.{◌≡◌, ◌+◌, ◌<◌};
 ghost use Rattle.chart.specs.View.{view};
 ghost use Rattle.chart.specs.Readable.{Readable};

@@ -1,4 +1,6 @@
 // Lent words of an accepted chart: when they are a state of it, and how its words are handed back and started.
+#![tactic(auto)]
+
 ghost use Rattle.std.specs.Prelude.{◌≡◌, true, false, ◌++◌, ◌<◌, ◌≤◌, length, get_or, drop};
 ghost use Rattle.words.specs.Loops.{all_below};
 ghost use Rattle.chart.specs.View.{view};

@@ -1,4 +1,6 @@
 // The transitions that a microstep takes: scope, literals, enabled, blocked. Every function is for an accepted chart.
+#![tactic(auto)]
+
 ghost use Rattle.std.specs.Prelude.{◌≡◌, true, false, not, ◌&&◌, ◌||◌, ℕ, ◌<◌, get_or};
 ghost use Rattle.words.specs.Loops.{all, all_below};
 ghost use Rattle.chart.specs.View.{view, transition_at};

@@ -1,5 +1,7 @@
 // Lent words are copied and cleared word by word, between slices of known lengths; and how many outputs they hold. It
 // knows neither charts nor flat tables.
+#![tactic(auto)]
+
 ghost use Rattle.std.specs.Prelude.{◌≡◌, ◌++◌, ◌+◌, ◌-◌, ◌≤◌, length, take, drop};
 ghost use Rattle.effects.specs.Lent.{pairs_for, zeros};
 

@@ -1,5 +1,7 @@
 // What items do: to running variables, outputs and the queue of signals; and what both engines need for a macrostep. It
 // knows items, and neither charts nor flat tables. specs/Run.antt says what it means, specs/Work.antt how the code goes.
+#![tactic(auto)]
+
 ghost use Rattle.std.specs.Prelude.{◌≡◌, ◌+◌, ◌*◌, ◌%◌, ◌<◌, ◌≤◌, length, slice_index, slice_set};
 ghost use Rattle.effects.specs.Run.{leave, fire, enter};
 ghost use Rattle.effects.specs.Work.{work, fired_of, left_of, entered_of, micro_of, tail_of, head_of, outs_of, stopped?, bits_of, stop_at, further, more, do_emit, do_raise, do_item, do_items, items_from, span_items, ItemsIn, counted, micro_done, popped, ended?, fresh, refusal_of};
@@ -7,7 +9,7 @@ ghost use Rattle.effects.specs.Work.{work, fired_of, left_of, entered_of, micro_
 use table::{Item, Refusal, Signal, Trigger};
 
 // Why a macrostep stops before its end.
-#[derive(Drop)]
+#[derive(Clone, Copy)]
 pub enum Stop {
     Signals,
     Outputs,
@@ -17,7 +19,7 @@ pub enum Stop {
 // How far a macrostep is, in two numbers, so that it takes little of the stack; how they are made up is known here alone.
 // specs/Work.antt says which bits count what: `counts` has what fired, the states left and the states entered, `rest` why it
 // has stopped, the microsteps, the signals raised (tail) and taken (head), and the outputs. No count of a macrostep reaches the next.
-#[derive(Drop)]
+#[derive(Clone, Copy)]
 pub struct Progress {
     counts: u64,
     rest: u64,

@@ -1,6 +1,8 @@
 // The flat table: its layout, and the reading of its records. It judges nothing: every function here takes any table whose
 // sections lie inside it, and so tests no index. specs/View.antt says what the words show, specs/Readable.antt what a table
 // must be to be read.
+#![tactic(auto)]
+
 ghost use Rattle.std.specs.Prelude.{◌≡◌, ◌+◌, ◌*◌, ◌<◌, length};
 ghost use Rattle.table.specs.Layout.{at};
 ghost use Rattle.flat.specs.View.{flat_view, guard_at, literal_at, rule_at, of_machine?};
@@ -122,7 +124,7 @@ pub fn rule_word(t: &[u16], k: usize, r: usize) -> usize
 }
 
 // What a literal asks: a state current or not, a variable at least or less than a number, a guard true or false.
-#[derive(Drop)]
+#[derive(Clone, Copy)]
 pub enum FlatLiteral {
     Current(u16),
     NotCurrent(u16),

@@ -1,5 +1,7 @@
 // The check of a flat table: the search for the lowest rule that is broken, at its lowest place. It takes any words at all.
 // specs/Answer.antt says how a table is answered.
+#![tactic(auto)]
+
 ghost use Rattle.std.specs.Prelude.{◌≡◌, ◌<◌, ◌≤◌};
 ghost use Rattle.table.specs.Answers.{told};
 ghost use Rattle.table.specs.Check.{rule_numbered, lowest_bad, KeptBefore};

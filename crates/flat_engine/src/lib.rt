@@ -1,4 +1,6 @@
 // The flat engine: the calls that start and run a flat table. It takes any table, state, event and words for outputs.
+#![tactic(auto)]
+
 ghost use Rattle.std.specs.Prelude.{◌≡◌, ◌++◌, ◌+◌, ◌*◌, ◌≤◌, length, drop};
 ghost use Rattle.words.specs.Loops.{all_below};
 ghost use Rattle.table.specs.Answers.{told};

@@ -1,5 +1,7 @@
 // The guards of a flat table that is accepted: which of those that are asked for are true, on given words and variables. A guard is
 // asked for, and then true, where it is marked, a bit each.
+#![tactic(auto)]
+
 ghost use Rattle.std.specs.Prelude.{◌≡◌, true, ◌&&◌, ℕ, ◌*◌, ◌<◌, ◌≤◌, length};
 ghost use Rattle.flat.specs.View.{flat_view};
 ghost use Rattle.flat_rules.specs.Rules.{FlatRules};

@@ -1,5 +1,7 @@
 // The tests of document 01's rules 11 to 13 for a flat table: its form, of any words at all, and where they have a header
 // its counts and its layout. specs/Rules.antt says the rules in words, specs/Tests.antt as tests.
+#![tactic(auto)]
+
 ghost use Rattle.std.specs.Prelude.{◌≡◌, ◌≤◌, length};
 ghost use Rattle.flat.specs.View.{flat_view};
 ghost use Rattle.flat_head.specs.Tests.{good_flat_form?, state_counts?, name_flat_counts?, list_flat_counts?, good_flat_counts?};

@@ -1,4 +1,6 @@
 // A macrostep of a flat table: microsteps until no signal waits, on copies of the lent state's words and variables.
+#![tactic(auto)]
+
 ghost use Rattle.std.specs.Prelude.{◌≡◌, ◌+◌, ◌*◌, ◌≤◌, length, take, drop};
 ghost use Rattle.effects.specs.Run.{macrostep};
 ghost use Rattle.effects.specs.Lent.{pairs_for};

@@ -1,4 +1,6 @@
 // What a flat table means: definitions in specs/, and what is proved of them as the contracts of functions that do nothing.
+#![tactic(auto)]
+
 ghost use Rattle.flat_meaning.specs.Theorems.{GuardsMean, FlatStartIsState, FlatRunLeavesState};
 
 // A guard is true just where its literals hold.

@@ -1,6 +1,8 @@
 // A microstep of a flat table that is accepted: its rules in order, where the trigger matches and both guards hold. The specs of
 // `flat_meaning` say which steps a microstep has; here they are gone through, from one rule of the trigger to the next. Only guards
 // of such rules are asked for.
+#![tactic(auto)]
+
 ghost use Rattle.std.specs.Prelude.{◌≡◌, true, ◌&&◌, ℕ, ◌*◌, ◌<◌, ◌≤◌, length};
 ghost use Rattle.words.specs.Loops.{when};
 ghost use Rattle.words.specs.Next.{Next};

@@ -10,4 +10,4 @@ pub flat_readable : {t : List ℕ} → FlatRules t → FlatReadable t
 flat_readable g = readable g.form g.counts g.layout
 
 -- for `search`, where a table that keeps the rules is read
-pub ruleset flat-needs = (rules, flat_readable)
+pub ruleset flat_needs = (rules, flat_readable)

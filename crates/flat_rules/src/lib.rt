@@ -1,5 +1,7 @@
 // The tests of document 01's rules 14 to 18 for a flat table, one function for each rule and place. They take any
 // table that keeps rules 11 to 13. specs/Rules.antt says the rules in words, specs/Tests.antt as tests.
+#![tactic(auto)]
+
 ghost use Rattle.std.specs.Prelude.{◌≡◌, ◌+◌, ◌<◌};
 ghost use Rattle.flat.specs.View.{flat_view};
 ghost use Rattle.flat.specs.Readable.{FlatReadable};

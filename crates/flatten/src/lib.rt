@@ -1,5 +1,7 @@
 // The flattener: writes the flat table of a chart into a room. What is written is `encode (flattened (view chart))`; the crate
 // `flatten_meaning` has the definitions, and the proof that this table does what the chart does.
+#![tactic(auto)]
+
 ghost use Rattle.std.specs.Prelude.{◌≡◌, ◌+◌, ◌<◌, length};
 ghost use Rattle.chart.specs.View.{view};
 ghost use Rattle.chart_rules.specs.Rules.{ChartRules};

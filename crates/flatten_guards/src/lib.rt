@@ -1,5 +1,7 @@
 // The two sections of a flat table that tell the guards: their spans and their literals. One walk over the guards lays
 // either. Every function is for an accepted chart.
+#![tactic(auto)]
+
 ghost use Rattle.std.specs.Prelude.{◌≡◌, [], ◌∷◌, ◌+◌, ◌-◌, ◌/◌, ◌<◌, ◌≤◌};
 ghost use Rattle.words.specs.Loops.{join_up};
 ghost use Rattle.chart.specs.View.{view};
@@ -15,7 +17,7 @@ ghost use Rattle.flatten_guards.specs.Penned.{Penned, stepped, Within, of_active
 use states::StateSet;
 
 // Where the next word goes, and the number of the next literal.
-#[derive(Drop)]
+#[derive(Clone, Copy)]
 pub struct Pen {
     pub at: usize,
     pub first: usize,

@@ -1,5 +1,7 @@
 // What a flat table has besides its guards and rules: the room that it needs, its header, its machines and states, and its
 // items, which are the chart's.
+#![tactic(auto)]
+
 ghost use Rattle.std.specs.Prelude.{◌≡◌, [], ◌∷◌, ◌+◌, ◌-◌, ◌*◌, ◌/◌, ◌<◌, ◌≤◌, length};
 ghost use Rattle.words.specs.Loops.{join_up, when};
 ghost use Rattle.chart.specs.View.{view};
@@ -17,7 +19,7 @@ ghost use Rattle.flatten_head.specs.Sizes.{SizesOf, PlacesOf, heading};
 ghost use Rattle.flatten_head.specs.Named.{of?, named};
 
 // How many machines, states, guards, literals and rules a flat table has.
-#[derive(Drop)]
+#[derive(Clone, Copy)]
 pub struct Sizes {
     pub machines: u16,
     pub states: u16,
@@ -27,7 +29,7 @@ pub struct Sizes {
 }
 
 // Where its sections begin, behind the machines' one, and where they end.
-#[derive(Drop)]
+#[derive(Clone, Copy)]
 pub struct Places {
     pub states: u16,
     pub guards: u16,

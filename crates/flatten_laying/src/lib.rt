@@ -1,5 +1,7 @@
 // The records of a flat table, laid word by word into a room. Each function says where the next record begins; past the end of
 // the room nothing is written, so that an empty room serves to count.
+#![tactic(auto)]
+
 ghost use Rattle.std.specs.Prelude.{◌≡◌, [], ◌∷◌, ◌+◌, ◌<◌, get_or};
 ghost use Rattle.words.specs.Loops.{many};
 ghost use Rattle.flatten_laying.specs.Lay.{lay};
@@ -50,14 +52,14 @@ pub fn put_rule(
 }
 
 // The two guards of a rule.
-#[derive(Drop)]
+#[derive(Clone, Copy)]
 pub struct Guards {
     pub first: u16,
     pub second: u16,
 }
 
 // A span of items.
-#[derive(Drop)]
+#[derive(Clone, Copy)]
 pub struct Items {
     pub first: u16,
     pub count: u16,

@@ -1,5 +1,7 @@
 // The literals of one guard of a flat table, laid into a room. Each function says where the next word goes; laid into an
 // empty room they are counted. Every function is for an accepted chart.
+#![tactic(auto)]
+
 ghost use Rattle.std.specs.Prelude.{◌≡◌, true, [], ◌∷◌, map, ◌+◌, ◌<◌, ◌≤◌};
 ghost use Rattle.words.specs.Loops.{join_up, when};
 ghost use Rattle.flat.specs.declared.FlatLiteral.TheVariants.{Current, Holds, Fails};

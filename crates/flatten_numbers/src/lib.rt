@@ -1,6 +1,8 @@
 // The numbers that a flat table's records name: flat states, and the guards of active states, taken transitions and entered
 // states. They are worked out once, into arrays. specs/Numbered.antt says what the arrays hold. Every function is for an
 // accepted chart.
+#![tactic(auto)]
+
 ghost use Rattle.std.specs.Prelude.{◌≡◌, cond, suc, ◌+◌, ◌<◌, ◌≤◌, length, set};
 ghost use Rattle.words.specs.Loops.{rank};
 ghost use Rattle.chart.specs.View.{view, is_and};
@@ -18,7 +20,7 @@ use states::StateSet;
 
 // What is worked out of a transition: its scope, the states that it enters by a rule, those with a guard of their own, and the
 // first guard of the next transition.
-#[derive(Drop)]
+#[derive(Clone, Copy)]
 pub struct Entries {
     pub top: usize,
     pub comes: StateSet,
@@ -46,7 +48,7 @@ fn put_number(numbers: &mut [u16], i: usize, x: usize)
 }
 
 // The states that get a number: the and-states, or those of a set.
-#[derive(Drop)]
+#[derive(Clone, Copy)]
 enum Which {
     Ands,
     These(StateSet),

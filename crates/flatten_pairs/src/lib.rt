@@ -1,5 +1,7 @@
 // What flattening asks of a transition and a state, or of two transitions: which can be active together, be left, block, be
 // entered, and be asked for. Every function is for an accepted chart.
+#![tactic(auto)]
+
 ghost use Rattle.std.specs.Prelude.{◌≡◌, not, ◌&&◌, ◌<◌};
 ghost use Rattle.words.specs.Loops.{any, any_below};
 ghost use Rattle.chart.specs.View.{view, is_and};

@@ -1,5 +1,7 @@
 // The rules' section of a flat table. By transition: exits in falling number of the states, own items, entries in rising
 // number. Every function is for an accepted chart.
+#![tactic(auto)]
+
 ghost use Rattle.std.specs.Prelude.{◌≡◌, cond, ◌+◌, ◌<◌, ◌≤◌, length, get_or};
 ghost use Rattle.words.specs.Loops.{join_up, join_down};
 ghost use Rattle.chart.specs.View.{view};

@@ -1,5 +1,7 @@
 // The sets of states that flattening works out: for a transition those that it can enter, that its rules enter and that
 // history decides on; for the chart those that have a guard of their own. Every function is for an accepted chart.
+#![tactic(auto)]
+
 ghost use Rattle.std.specs.Prelude.{◌≡◌, false, ◌&&◌, ◌||◌, ℕ, ◌<◌, get_or};
 ghost use Rattle.words.specs.Loops.{any_below};
 ghost use Rattle.chart.specs.View.{view};

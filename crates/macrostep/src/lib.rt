@@ -1,5 +1,7 @@
 // What the macrosteps of a chart and of a flat table have in common: how many words of the outputs are kept aside while one is tried,
 // and when it is told. Each form has a loop of its own (`chart_macrostep`, `flat_macrostep`): one for both takes more of the stack.
+#![tactic(auto)]
+
 ghost use Rattle.std.specs.Prelude.{◌≡◌, ◌≤◌};
 ghost use Rattle.macrostep.specs.Ends.{told?};
 

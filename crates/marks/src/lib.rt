@@ -1,5 +1,7 @@
 // A set of numbers as the bits of 16-bit words in a lent slice: the guards that are asked for, and those of them that are true.
 // Every number here has its bit in the slice, so no index is tested. specs/Bits.antt says what is marked.
+#![tactic(auto)]
+
 ghost use Rattle.std.specs.Prelude.{◌≡◌, ◌*◌, ◌<◌, ◌≤◌, length};
 ghost use Rattle.words.specs.Next.{Onward, Last};
 ghost use Rattle.marks.specs.Bits.{bit_at, set_bit, clear_bit, marked, with_mark, without_mark};

@@ -1,5 +1,7 @@
 // The public calls, with their promises and nothing else. Each takes anything at all and ends with one answer of document
 // 01. specs/Promises.antt says what is promised; the module `theorems` what is proved of the promises themselves.
+#![tactic(auto)]
+
 pub mod theorems;
 
 ghost use Rattle.olivrescum.specs.Promises.{ChartChecked, ChartStarted, ChartRan};

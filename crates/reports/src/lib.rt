@@ -1,5 +1,7 @@
 // Reports for C and Rust: what an answer says in numbers, and the eight words that tell it. specs/Said.antt has the definitions;
 // the parts of an answer are those of `answers`.
+#![tactic(auto)]
+
 ghost use Rattle.std.specs.Prelude.{◌≡◌, set};
 ghost use Rattle.reports.specs.Said.{verdict_said, chart_said, flat_said, flatten_said, report_of, reported};
 
@@ -7,7 +9,7 @@ use answers::{ChartRun, FlatRun, Flattening};
 use table::Verdict;
 
 // What an answer says in numbers: its own number, and then the eight words of a report. What a call does not count is 0.
-#[derive(Drop)]
+#[derive(Clone, Copy)]
 pub struct Said {
     pub number: u32,
     pub place: u32,

@@ -1,5 +1,7 @@
 // Document 01's small program: reads a chart from standard input and then its events, a byte each. Prints a line for
 // each event and a last one for the state; of a refused table only the number and the place of its refusal.
+#![tactic(auto)]
+
 ghost use Rattle.io.specs.Counts.{IsPrefixLen};
 ghost use Rattle.std.specs.Prelude.{◌≤◌};
 
@@ -100,7 +102,7 @@ fn run_events(t: &[u16], state: &mut [u16], events: &[u8], text: &mut Text, at: 
 }
 
 // A piece of the input that was run: how many events it had, and how many bytes of text wait then.
-#[derive(Drop)]
+#[derive(Clone, Copy)]
 struct Piece {
     events: usize,
     at: usize,

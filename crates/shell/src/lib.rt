@@ -1,5 +1,7 @@
 // What the programs share and the library has no use for: words from standard input, and text to standard output. Both
 // are functions over lent arrays and a position: nothing is kept between calls.
+#![tactic(auto)]
+
 ghost use Rattle.std.specs.Prelude.{◌≡◌, ◌+◌, ◌-◌, ◌*◌, ◌<◌, ◌≤◌, min, set};
 ghost use Rattle.io.specs.Counts.{IsPrefixLen};
 

@@ -1,12 +1,14 @@
 // A set of numbers below 48: the states that are active or entered, the transitions that are taken. It is kept as the bits of
 // one 64-bit number, number k in bit k; that is known here alone. specs/Cells.antt says what a set shows.
+#![tactic(auto)]
+
 ghost use Rattle.std.specs.Prelude.{◌≡◌, true, false, not, ◌&&◌, ℕ, ◌<◌, ◌≤◌, get_or, set};
 ghost use Rattle.words.specs.Loops.{rank};
 ghost use Rattle.words.specs.Next.{Next, Last};
 ghost use Rattle.marks.specs.Bits.{bit_at, set_bit, clear_bit};
 ghost use Rattle.states.specs.Cells.{cells, no_cells};
 
-#[derive(Drop)]
+#[derive(Clone, Copy)]
 pub struct StateSet {
     bits: u64,
 }

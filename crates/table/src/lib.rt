@@ -1,5 +1,7 @@
 // What chart tables and flat tables have in common: signal and trigger numbers, items, spans, and what a call can say.
 // It knows words, and neither of the two tables. specs/Lib.antt is the door to the definitions.
+#![tactic(auto)]
+
 ghost use Rattle.std.specs.Prelude.{◌≡◌, ◌+◌, ◌<◌, length, get_or};
 ghost use Rattle.table.specs.Numbers.{trigger_of};
 ghost use Rattle.table.specs.Triple.{triple_at};
@@ -11,11 +13,11 @@ ghost use Rattle.table.specs.Span.{span_at, inside?};
 ghost use Rattle.table.specs.Answers.{refusal_told};
 
 // A signal's own number, as items name it.
-#[derive(Drop)]
+#[derive(Clone, Copy)]
 pub struct Signal(pub u16);
 
 // A trigger's number, as transitions and rules name it: events first, and then the signals.
-#[derive(Drop)]
+#[derive(Clone, Copy)]
 pub struct Trigger(pub u32);
 
 // Signal k is the trigger behind all events and k signals: the only way from one counting to the other.
@@ -26,7 +28,7 @@ pub fn trigger_of(signal: Signal, events: u16) -> Trigger
 }
 
 // What an item does: its kind decides which of its words it reads.
-#[derive(Drop)]
+#[derive(Clone, Copy)]
 pub enum Item {
     Emit(u16),
     Raise(Signal),
@@ -63,7 +65,7 @@ pub fn item_at(t: &[u16], at: usize) -> Item
 }
 
 // What a field of an item may name.
-#[derive(Drop)]
+#[derive(Clone, Copy)]
 pub enum Bound {
     Zero,
     Output,
@@ -73,7 +75,7 @@ pub enum Bound {
 }
 
 // The ranges that the two fields of an item obey.
-#[derive(Drop)]
+#[derive(Clone, Copy)]
 pub struct Row {
     pub a: Bound,
     pub b: Bound,
@@ -108,7 +110,7 @@ const ROWS: [Row; 6] = [
 ];
 
 // How many signals, outputs and variables a table has.
-#[derive(Drop)]
+#[derive(Clone, Copy)]
 pub struct ItemCounts {
     pub signals: u16,
     pub outputs: u16,
@@ -201,7 +203,7 @@ pub fn span_inside(t: &[u16], at: usize, count: usize) -> bool
 }
 
 // What a call refuses, with the place where the paper names one.
-#[derive(Drop)]
+#[derive(Clone, Copy)]
 pub enum Refusal {
     ChartForm,
     ChartCount,
@@ -229,7 +231,7 @@ pub enum Refusal {
 }
 
 // What a check or a start says.
-#[derive(Drop)]
+#[derive(Clone, Copy)]
 pub enum Verdict {
     Done,
     Refused(Refusal),

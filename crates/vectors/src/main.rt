@@ -1,6 +1,8 @@
 // Runs cases on the public calls: reads one after the other from standard input until it ends, and prints what each
 // call said. A case is six words, then those of its table and of its state, then two words for each event of a
 // flattening. Each call has a function that runs it and prints its lines; `run_case` knows which call has which number.
+#![tactic(auto)]
+
 ghost use Rattle.std.specs.Prelude.{◌≡◌, ◌+◌, ◌*◌, ◌<◌, ◌%◌};
 
 use answers::Flattening;
@@ -9,7 +11,7 @@ use table::Verdict;
 
 // What the first six words of a case say. `number` is the event, or how many events follow a flattening; `room` counts
 // the words that are lent for outputs or for a flat table.
-#[derive(Drop)]
+#[derive(Clone, Copy)]
 struct Case {
     call: u16,
     number: u32,

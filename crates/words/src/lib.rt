@@ -1,5 +1,7 @@
 // Words of 16 bits: reading and writing them in a lent slice, the signed view, and the two adds.
 // It knows nothing of tables. specs/Signed.antt says what the adds mean, specs/Loops.antt how loops are said.
+#![tactic(auto)]
+
 ghost use Rattle.std.specs.Prelude.{◌≡◌, ◌&&◌, ◌<◌, length, get_or, set};
 ghost use Rattle.std.specs.Int.{w16};
 ghost use Rattle.std.proofs.Common.{SFits, to_z, of_z};

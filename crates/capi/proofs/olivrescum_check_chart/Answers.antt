@@ -1,0 +1,8 @@
+-- The answer is that of `olivrescum::check_chart`, whose numbers are told. Assumes nothing.
+use Rattle.capi.proofs.Answers.{answered}
+use Rattle.capi.proofs.olivrescum_check_chart.Goals as goal
+
+pub returns : goal.returns
+returns c =
+    let call = c.check_chart in
+    answered call.result call.ensures c.verdict_said.ensures c.tell.ensures

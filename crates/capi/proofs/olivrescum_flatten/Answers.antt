@@ -1,0 +1,8 @@
+-- The answer is that of `olivrescum::flatten`, whose numbers are told. Assumes nothing.
+use Rattle.capi.proofs.Answers.{answered}
+use Rattle.capi.proofs.olivrescum_flatten.Goals as goal
+
+pub returns : goal.returns
+returns c =
+    let call = c.flatten in
+    answered call.result call.ensures c.flatten_said.ensures c.tell.ensures

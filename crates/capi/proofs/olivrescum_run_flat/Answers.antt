@@ -1,0 +1,8 @@
+-- The answer is that of `olivrescum::run_flat`, whose numbers are told. Assumes nothing.
+use Rattle.capi.proofs.Answers.{answered}
+use Rattle.capi.proofs.olivrescum_run_flat.Goals as goal
+
+pub returns : goal.returns
+returns c =
+    let call = c.run_flat in
+    answered call.result call.ensures c.flat_said.ensures c.tell.ensures

@@ -1,0 +1,5 @@
+-- `chart::transition_word_at` meets its contract: what it returns is what its callee says. Assumes nothing.
+use Rattle.chart.proofs.transition_word_at.Goals as goal
+
+pub returns : goal.returns
+returns c = (rw (c.number_in.ensures.is, c.requires.2), c.number_in.ensures.small)

@@ -1,0 +1,7 @@
+-- `chart_active::child_of` meets its contract: the word at o's place. Assumes nothing.
+use Rattle.chart_meaning.specs.Active.{child}
+use Rattle.chart_active.proofs.child_of.Goals as goal
+
+pub returns : goal.returns
+unfolding child
+returns c = (rw (c.number.ensures.is, c.requires), c.number.ensures.small)

@@ -1,0 +1,12 @@
+-- What the loops of `chart_check::are_states_good` keep, and what grows smaller.
+use Prim.Native.Nat.{◌-◌}
+use Rattle.chart.specs.View.{view}
+use Rattle.chart_check.specs.Records.{state_kept}
+use Rattle.chart_check.proofs.Walk.{Passed}
+use Rattle.chart_check.proofs.are_states_good.Given as goal
+
+abbrev pub invariant-loop-k : goal.invariant-loop-k
+invariant-loop-k l = Passed (state_kept (view l.t)) l.n l.k
+
+abbrev pub decreases-loop-k : goal.decreases-loop-k
+decreases-loop-k l = l.n - l.k

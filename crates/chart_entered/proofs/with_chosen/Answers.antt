@@ -1,0 +1,89 @@
+-- `chart_entered::with_chosen` meets its contract: where the set with what k leads to is another one, k is aimed at o, and where it
+-- is the same, k is not, since a child of o that leads to a target would be new; each branch is then one of `chosen`.
+-- Assumes nothing.
+use Prim.Native.Nat.{ℕ}
+use mathlib.Core.Path.{◌≡◌, sym, ap, ◌∙◌}
+use mathlib.Core.Bool.{Bool, true, false, ◌&&◌, ◌||◌}
+use native.Mathlib.Omega.{arith}
+use borrow.Author.Tests.{not-true, not-false}
+use lib.ListN.{get_or}
+use lib.Dec.{eqb}
+use Rattle.words.proofs.Tests.{by_bool, clash}
+use Rattle.chart.specs.View.{view, child_of?}
+use Rattle.chart_rules.proofs.Readable.{chart_needs}
+use Rattle.states.specs.Cells.{cells}
+use Rattle.chart_meaning.specs.Entered.{aimed}
+use Rattle.chart_meaning.proofs.Tree.{tree}
+use Rattle.chart_entered.proofs.Came.{chosen_led, chosen_latest, chosen_initial, none_led}
+use Rattle.chart_entered.proofs.with_chosen.Goals as goal
+
+pub returns-then-not-same : goal.returns-then-not-same
+returns-then-not-same c =
+    let s = c.args in
+    let v = view s.t.now in
+    let led = c.with_led-led in
+    let same = c.same in
+    let new = not-true same.result c.if-not-same.true in
+    let towards : aimed v s.k s.o ≡ true =
+    by_bool (aimed v s.k s.o) (λ a. a) (λ a. clash same.result (same.ensures.1 (led.ensures.1 a)) new) in
+    λ j. led.ensures.0 j
+    ∙ ap (λ (b : Bool). get_or (cells s.entered) j false || b)
+    (chosen_led (tree c.requires.0) s.o c.requires.2 s.current.now s.k towards j)
+
+pub rank_of-r-requires : goal.rank_of-r-requires
+rank_of-r-requires c =
+    let pre = c.requires in
+    (pre.0, pre.3, omega (arith, pre.2))
+
+pub returns-then-keeps_word : goal.returns-then-keeps_word
+returns-then-keeps_word c =
+    let s = c.args in
+    let v = view s.t.now in
+    let w = tree c.requires.0 in
+    let led = c.with_led-led in
+    let same = c.same in
+    let alike = same.ensures.0 (not-false same.result c.if-not-same.false) in
+    let none = none_led w s.o c.requires.2 s.current.now s.k c.requires.1 (cells s.entered) (cells led.result)
+    c.requires.4 led.ensures.0 alike in
+    let keeps = sym c.keeps_word.ensures ∙ c.if-keeps_word.true in
+    λ j. c.with_child.ensures.more j
+    ∙ ap (λ (b : Bool). get_or (cells s.entered) j false || b)
+    (ap (λ (n : ℕ). child_of? v s.o j && eqb j n) c.child_of.ensures.is
+    ∙ chosen_latest w s.o c.requires.2 s.current.now s.k none keeps j)
+
+pub returns : goal.returns
+returns c =
+    let s = c.args in
+    let v = view s.t.now in
+    let w = tree c.requires.0 in
+    let led = c.with_led-led in
+    let same = c.same in
+    let alike = same.ensures.0 (not-false same.result c.if-not-same.false) in
+    let none = none_led w s.o c.requires.2 s.current.now s.k c.requires.1 (cells s.entered) (cells led.result)
+    c.requires.4 led.ensures.0 alike in
+    let keeps-none = sym c.keeps_word.ensures ∙ c.if-keeps_word.false in
+    λ j. c.with_child-2.ensures.more j
+    ∙ ap (λ (b : Bool). get_or (cells s.entered) j false || b)
+    (ap (λ (n : ℕ). child_of? v s.o j && eqb j n) c.state_word.ensures.is
+    ∙ chosen_initial w s.o c.requires.2 s.current.now s.k none keeps-none j)
+
+pub with_led-led-requires : goal.with_led-led-requires
+with_led-led-requires c = search chart_needs
+
+pub same-requires : goal.same-requires
+same-requires c = search chart_needs
+
+pub keeps_word-requires : goal.keeps_word-requires
+keeps_word-requires c = search chart_needs
+
+pub child_of-requires : goal.child_of-requires
+child_of-requires c = c.rank_of-r.ensures
+
+pub with_child-requires : goal.with_child-requires
+with_child-requires c = search chart_needs
+
+pub state_word-requires : goal.state_word-requires
+state_word-requires c = search chart_needs
+
+pub with_child-requires-2 : goal.with_child-requires-2
+with_child-requires-2 c = search chart_needs

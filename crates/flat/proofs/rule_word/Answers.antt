@@ -1,0 +1,11 @@
+-- `flat::rule_word` meets its contract: what it returns is what its callees say. Assumes nothing.
+use Prim.Native.Nat.{ℕ, ◌+◌}
+use mathlib.Core.Path.{ap, ◌∙◌}
+use lib.ListN.{get_or}
+use Rattle.flat.proofs.rule_word.Goals as goal
+
+pub returns : goal.returns
+returns c =
+    let s = c.args in
+    let place = ap (λ (n : ℕ). get_or s.t.now (n + s.r) 0) c.rule_at.ensures.is in
+    (c.number_in.ensures.is ∙ place, c.number_in.ensures.small)

@@ -1,9 +1,0 @@
--- `flat_engine::finished_counts` meets its contract: each count is in its place. Assumes nothing.
-use Rattle.flat_engine.proofs.finished_counts.Statement.{statement}
-use Rattle.flat_engine.proofs.finished_counts.Tie as tie
-
-returns : tie.Need-returns
-returns c = rw (c.outs-of.ensures.0, c.before.fired-of.ensures, c.before.before.micro-of.ensures)
-
-pub finished_counts_spec : {M : Type 1} → statement M
-finished_counts_spec = tie.close (tie.spec (λ c κs. tt) (λ c κs. tt) (λ c κs. tt) returns)

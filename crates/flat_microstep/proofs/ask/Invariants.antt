@@ -1,0 +1,16 @@
+-- What the loops of `flat_microstep::ask` keep, and what grows smaller.
+use Prim.Native.Nat.{◌-◌, ◌≤◌}
+use mathlib.Core.Path.{◌≡◌}
+use lib.ListN.{length}
+use Rattle.words.specs.Next.{Next}
+use Rattle.flat.specs.View.{flat_view}
+use Rattle.flat_microstep.specs.Stretch.{has?}
+use Rattle.flat_microstep.proofs.Asking.{AskedBelow}
+use Rattle.flat_microstep.proofs.ask.Given as goal
+
+abbrev pub invariant-loop-k : goal.invariant-loop-k
+invariant-loop-k l =
+    (l.from ≤ l.until) × (length l.marks ≡ length l.initial.marks) × Next (has? (flat_view l.t) l.e) l.until l.rules l.k × AskedBelow (flat_view l.t) l.e l.marks l.until
+
+abbrev pub decreases-loop-k : goal.decreases-loop-k
+decreases-loop-k l = l.rules - l.k

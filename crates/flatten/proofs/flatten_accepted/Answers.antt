@@ -1,0 +1,15 @@
+-- `flatten::flatten_accepted` meets its contract: a room below the formula is refused, in any other the table is laid. Assumes
+-- nothing.
+use native.Mathlib.Omega.{arith}
+use Rattle.flatten.specs.Wrote.{wrote}
+use Rattle.flatten.proofs.Answers.{room_refused}
+use Rattle.flatten.proofs.flatten_accepted.Goals as goal
+
+pub returns-then-room-room_needed : goal.returns-then-room-room_needed
+returns-then-room-room_needed c =
+    room_refused c.args.t.now c.args.room.now c.requires (omega (arith, c.room_needed.ensures))
+
+pub returns : goal.returns
+returns c =
+    let words = c.lay_table.ensures in
+    wrote c.requires (omega (arith, c.room_needed.ensures)) words.0 words.1

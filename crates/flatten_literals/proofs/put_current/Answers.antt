@@ -1,0 +1,10 @@
+-- `flatten_literals::put_current` meets its contract: the literal's three words are laid. Assumes nothing.
+use borrow.Author.Rules.{rules}
+use Rattle.flatten_meaning.specs.Encoded.{literal_triple}
+use Rattle.flatten_literals.proofs.put_current.Goals as goal
+
+pub returns : goal.returns
+unfolding literal_triple
+returns c =
+    let put = c.put_triple.ensures in
+    (record { place = put.0; laid = put.1 }, search rules)

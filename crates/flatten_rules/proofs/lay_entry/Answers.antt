@@ -1,0 +1,64 @@
+-- `flatten_rules::lay_entry` meets its contract: there is a rule where the transition enters the state by one. Assumes
+-- nothing.
+use borrow.Author.Tests.{not-true, not-false}
+use Prim.Native.Nat.{ℕ, ◌+◌}
+use mathlib.Core.Path.{◌≡◌, sym, ap, ◌∙◌}
+use mathlib.Core.Bool.{true, false}
+use lib.ListN.{get_or}
+use native.Mathlib.Omega.{arith}
+use Rattle.chart.specs.View.{view}
+use Rattle.chart_rules.proofs.Readable.{chart_needs}
+use Rattle.chart_meaning.proofs.Tree.{tree, up_lt}
+use Rattle.flatten_meaning.specs.Flattened.{comes, entry_rule}
+use Rattle.flatten_meaning.proofs.Bounds.{comes_and}
+use Rattle.flatten_laying.proofs.Laid.{laid_none}
+use Rattle.flatten_rules.proofs.Ruled.{one_rule, same_row}
+use Rattle.flatten_rules.proofs.lay_entry.Goals as goal
+
+pub returns-then-not-has : goal.returns-then-not-has
+returns-then-not-has c =
+    let s = c.args in
+    let has = c.has in
+    let told : comes (view s.t.now) s.k s.j ≡ false =
+    sym (c.requires.2 s.j c.requires.3) ∙ sym has.ensures ∙ not-true has.result c.if-not-has.true in
+    (rw told laid_none, omega arith)
+
+-- what a rule enters is an and-state, and so has a parent
+pub target_of-requires : goal.target_of-requires
+target_of-requires c =
+    let s = c.args in
+    let v = view s.t.now in
+    let has = c.has in
+    let told = sym (c.requires.2 s.j c.requires.3) ∙ sym has.ensures ∙ not-false has.result c.if-not-has.false in
+    let up = up_lt (tree c.requires.0) s.j c.requires.3 (comes_and v s.k s.j c.requires.3 told) in
+    (c.requires.0, c.requires.1, c.requires.3, omega (arith, up, c.requires.3), c.requires.4)
+
+pub returns : goal.returns
+unfolding entry_rule
+returns c =
+    let s = c.args in
+    let v = view s.t.now in
+    let has = c.has in
+    let told : comes v s.k s.j ≡ true =
+    sym (c.requires.2 s.j c.requires.3) ∙ sym has.ensures
+    ∙ not-false has.result
+    c.if-not-has.false in
+    let taken = c.requires.5 s.k c.requires.1 in
+    let refer = c.requires.6 s.j c.requires.3 in
+    let from = c.state_at.ensures.is in
+    let items = c.items_at-items.ensures in
+    let first = items.0 ∙ ap (λ (n : ℕ). get_or s.t.now (n + 5) 0) from in
+    let count = items.1 ∙ ap (λ (n : ℕ). get_or s.t.now (n + 5 + 1) 0) from in
+    let row =
+    same_row c.trigger_of.ensures
+    (c.word.ensures ∙ taken)
+    (c.word-2.ensures ∙ refer) first count
+    c.target_of.ensures in
+    let put = c.put_rule.ensures in
+    (rw told (one_rule (entry_rule v s.k s.j) row put.0 put.1), omega arith)
+
+pub state_at-requires : goal.state_at-requires
+state_at-requires c = search chart_needs
+
+pub trigger_of-requires : goal.trigger_of-requires
+trigger_of-requires c = search chart_needs

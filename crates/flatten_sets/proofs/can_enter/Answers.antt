@@ -1,0 +1,56 @@
+-- `flatten_sets::can_enter` meets its contract: each branch is one of `may_at`; an and-state's parent has a smaller number, so it is
+-- a state. Assumes nothing.
+use borrow.Author.Tests.{not-true, not-false}
+use Prim.Native.Nat.{ℕ}
+use mathlib.Core.Path.{sym, ap, ◌∙◌}
+use native.Mathlib.Omega.{arith}
+use Rattle.chart.specs.View.{view}
+use Rattle.chart_rules.proofs.Readable.{chart_needs}
+use Rattle.states.specs.Cells.{cells}
+use Rattle.chart_meaning.specs.Entered.{reached}
+use Rattle.chart_meaning.proofs.Tree.{tree, up_lt}
+use Rattle.flatten_meaning.specs.Flattened.{may_at}
+use Rattle.flatten_sets.proofs.can_enter.Goals as goal
+
+pub returns-then-not-is_and : goal.returns-then-not-is_and
+unfolding may_at
+returns-then-not-is_and c = rw (sym c.is_and.ensures ∙ not-true c.is_and.result c.if-not-is_and.true)
+
+pub is_reached-requires : goal.is_reached-requires
+is_reached-requires c =
+    let is_and_lem = c.is_and in
+    let and = sym is_and_lem.ensures ∙ not-false is_and_lem.result c.if-not-is_and.false in
+    let up = up_lt (tree c.requires.0) c.args.j c.requires.2 and in
+    (c.requires.0, c.requires.2, omega (arith, c.requires.2))
+
+pub returns-then-not-is_reached : goal.returns-then-not-is_reached
+unfolding may_at
+returns-then-not-is_reached c =
+    let s = c.args in
+    let v = view s.t.now in
+    let and = not-false c.is_and.result c.if-not-is_and.false in
+    let out = not-true c.is_reached.result c.if-not-is_reached.true in
+    let by-scope = ap (λ (o : ℕ). reached v o s.j (cells s.can)) c.requires.3 in
+    let not-reached = sym (c.is_reached.ensures ∙ by-scope) ∙ out in
+    rw (sym c.is_and.ensures ∙ and, not-reached)
+
+pub can_choose-requires : goal.can_choose-requires
+can_choose-requires c =
+    let is_and_lem = c.is_and in
+    let and = sym is_and_lem.ensures ∙ not-false is_and_lem.result c.if-not-is_and.false in
+    let up = up_lt (tree c.requires.0) c.args.j c.requires.2 and in
+    (c.requires.0, c.requires.1, c.requires.2, omega (arith, c.requires.2))
+
+pub returns : goal.returns
+unfolding may_at
+returns c =
+    let s = c.args in
+    let v = view s.t.now in
+    let and = not-false c.is_and.result c.if-not-is_and.false in
+    let in_reach = not-false c.is_reached.result c.if-not-is_reached.false in
+    let by-scope = ap (λ (o : ℕ). reached v o s.j (cells s.can)) c.requires.3 in
+    let is-reached = sym (c.is_reached.ensures ∙ by-scope) ∙ in_reach in
+    rw (sym c.is_and.ensures ∙ and, is-reached) c.can_choose.ensures
+
+pub is_and-requires : goal.is_and-requires
+is_and-requires c = search chart_needs

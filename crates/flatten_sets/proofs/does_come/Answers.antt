@@ -1,0 +1,57 @@
+-- `flatten_sets::does_come` meets its contract: it makes the tests of `comes` in their order; a state that can be entered is an
+-- and-state, so its parent is a state. Assumes nothing.
+use borrow.Author.Tests.{not-true, not-false}
+use Prim.Native.Nat.{ℕ}
+use mathlib.Core.Path.{sym, ap, ◌∙◌}
+use native.Mathlib.Nat.{add_assoc}
+use lib.ListN.{get_or}
+use Rattle.chart.specs.View.{state_at, view}
+use Rattle.chart_rules.proofs.Readable.{chart_needs}
+use Rattle.chart_meaning.proofs.Tree.{tree}
+use Rattle.flatten_meaning.specs.Flattened.{comes}
+use Rattle.flatten_sets.proofs.Sets.{may_parent}
+use Rattle.flatten_sets.proofs.does_come.Goals as goal
+
+pub returns-then-not-has : goal.returns-then-not-has
+unfolding comes
+returns-then-not-has c =
+    let has = c.has in
+    let told = has.ensures ∙ c.requires.3 in
+    rw (sym told ∙ not-true has.result c.if-not-has.true)
+
+pub is_decided-requires : goal.is_decided-requires
+is_decided-requires c =
+    let s = c.args in
+    let pre = c.requires in
+    let has = c.has in
+    let enters = sym (has.ensures ∙ pre.3) ∙ not-false has.result c.if-not-has.false in
+    (pre.0, pre.1, pre.2, may_parent (view s.t.now) (tree pre.0) s.k s.j pre.2 enters)
+
+pub returns-then-not-is_decided : goal.returns-then-not-is_decided
+unfolding comes
+returns-then-not-is_decided c =
+    let has = c.has in
+    let told = has.ensures ∙ c.requires.3 in
+    let free = c.is_decided in
+    rw (
+      sym told ∙ not-false has.result c.if-not-has.false,
+      sym free.ensures ∙ not-true free.result c.if-not-is_decided.true,
+    )
+
+pub returns : goal.returns
+unfolding comes
+returns c =
+    let s = c.args in
+    let count_word = ap (λ (i : ℕ). get_or s.t.now i 0) (sym (add_assoc (state_at s.t.now s.j) 5 1)) in
+    let has = c.has in
+    let told = has.ensures ∙ c.requires.3 in
+    let free = c.is_decided in
+    let count = c.state_word.ensures.is ∙ count_word in
+    rw (
+      sym told ∙ not-false has.result c.if-not-has.false,
+      sym free.ensures ∙ not-false free.result c.if-not-is_decided.false,
+      ← count,
+    )
+
+pub state_word-requires : goal.state_word-requires
+state_word-requires c = search chart_needs

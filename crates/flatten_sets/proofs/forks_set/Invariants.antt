@@ -1,0 +1,13 @@
+-- What the loops of `flatten_sets::forks_set` keep, and what grows smaller.
+use Prim.Native.Nat.{◌-◌, ◌≤◌}
+use Rattle.chart.specs.View.{view}
+use Rattle.states.specs.Cells.{cells}
+use Rattle.flatten_meaning.specs.Flattened.{forks}
+use Rattle.flatten_sets.proofs.Sifted.{Sifted}
+use Rattle.flatten_sets.proofs.forks_set.Given as goal
+
+abbrev pub invariant-loop-j : goal.invariant-loop-j
+invariant-loop-j l = (l.j ≤ l.n) × Sifted (forks (view l.t) l.k) l.j (cells l.set)
+
+abbrev pub decreases-loop-j : goal.decreases-loop-j
+decreases-loop-j l = l.n - l.j

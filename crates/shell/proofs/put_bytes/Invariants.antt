@@ -1,0 +1,10 @@
+-- The loop ends since `k` rises to the length; that `k` stays within it makes each index good. Assumes nothing.
+use Prim.Native.Nat.{◌≤◌, ◌-◌}
+use lib.ListN.{length}
+use Rattle.shell.proofs.put_bytes.Given as goal
+
+abbrev pub invariant-loop-k : goal.invariant-loop-k
+invariant-loop-k l = l.k ≤ length l.bytes
+
+abbrev pub decreases-loop-k : goal.decreases-loop-k
+decreases-loop-k l = length l.bytes - l.k
