@@ -14,7 +14,7 @@ use Rattle.words.specs.Signed.{clip}
 
 -- what is read of a word, read back from 32 bits
 pub read : (x : ℕ) (r : ℤ) → Fits w16 x → r ≡ to_z w16 x → to_z w32 (of_z w32 r) ≡ to_z w16 x
-read x r f e = rw e (to_z-of_z (sfits_widen tt (sfits_to_z f)))
+read x r f e = rw e (to_z-of_z {w = w32} (sfits_widen {w = w16} {w' = w32} tt (sfits_to_z f)))
 
 -- a negative number of 16 bits, with 65536 added, is its word
 pub back : (s : ℤ) → SFits w16 s → lt_z s (pos 0) ≡ true → s +ℤ pos 65536 ≡ pos (of_z w16 s)

@@ -21,6 +21,6 @@ pub returns-in_default : goal.returns-in_default
 unfolding literal_of
 returns-in_default c =
     let k = c.args.kind in
-    let n = c.in_default-own.rest in
+    let n = c.in_default.in_default-own.rest in
     let e : k ≡ suc (suc (suc (k - 3))) = omega (arith, n.1, n.0.1, n.0.0.1) in
     rw e

@@ -19,7 +19,7 @@ returns-then-not-is_up c =
     let is-or = not_yes (is_and (view s.t.now) s.o) c.requires.2 in
     let told = up_told w words s.o c.requires.1 is-or acts c.requires.4 in
     let up = c.is_up in
-    let asleep = sym told ∙ sym up.ensures ∙ not-true up.result c.if-not-is_up.true in
+    let asleep = sym told ∙ sym up.ensures ∙ c.if-not-is_up.true in
     shown_asleep w words s.o c.requires.1 is-or acts asleep c.requires.4
 
 pub returns : goal.returns
@@ -31,5 +31,5 @@ returns c =
     let is-or = not_yes (is_and (view s.t.now) s.o) c.requires.2 in
     let told = up_told w words s.o c.requires.1 is-or acts c.requires.4 in
     let up = c.is_up in
-    let awake = sym told ∙ sym up.ensures ∙ not-false up.result c.if-not-is_up.false in
+    let awake = sym told ∙ sym up.ensures ∙ c.if-not-is_up.false in
     rw c.with_child.ensures (shown_awake w words s.o c.requires.1 is-or acts (cells_length s.acts) awake c.requires.4)

@@ -8,13 +8,13 @@ pub returns-then-not-is_and_state : goal.returns-then-not-is_and_state
 unfolding good_target?
 returns-then-not-is_and_state c =
     let told = rw c.aim_of-this.ensures.is at c.is_and_state.ensures in
-    rw (sym told ∙ not-true c.is_and_state.result c.if-not-is_and_state.true)
+    rw (sym told ∙ c.if-not-is_and_state.true)
 
 pub returns : goal.returns
 unfolding good_target?
 returns c =
     let told = rw c.aim_of-this.ensures.is at c.is_and_state.ensures in
-    rw (sym told ∙ not-false c.is_and_state.result c.if-not-is_and_state.false) c.apart_from.ensures
+    rw (sym told ∙ c.if-not-is_and_state.false) c.apart_from.ensures
 
 pub aim_of-this-requires : goal.aim_of-this-requires
 aim_of-this-requires c = c.requires

@@ -49,7 +49,7 @@ good_source-requires c =
 
 pub good_targets-requires : goal.good_targets-requires
 good_targets-requires c =
-    let n = c.in_default-own.rest in
+    let n = c.in_default.in_default-own.rest in
     let few = n.0.0.0.0 in
     let z =
     ninth c.args.k c.requires.0 few.0.0.0.1 few.0.0.1 few.0.1 few.1
@@ -87,7 +87,7 @@ returns-in-7 c = rw c.in-7.is c.good_source.ensures
 
 pub returns-in_default : goal.returns-in_default
 returns-in_default c =
-    let n = c.in_default-own.rest in
+    let n = c.in_default.in_default-own.rest in
     let few = n.0.0.0.0 in
     let z =
     ninth c.args.k c.requires.0 few.0.0.0.1 few.0.0.1 few.0.1 few.1

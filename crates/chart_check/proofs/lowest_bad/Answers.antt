@@ -26,7 +26,7 @@ returns-then-not-keeps c =
     let l = c.loop-i in
     let ok = (rule_numbered (chart_rules s.t.now) s.k).keeps in (
       sym (l.invariant.1 ∙ bad ok l.i s.places c.loop-i-test.true
-          (sym c.keeps.ensures ∙ not-true c.keeps.result c.if-not-keeps.true)),
+          (sym c.keeps.ensures ∙ c.if-not-keeps.true)),
       l.invariant.0,
     )
 
@@ -37,7 +37,7 @@ loop-i-preserved c =
     let ok = (rule_numbered (chart_rules s.t.now) s.k).keeps in (
       omega arith,
       l.invariant.1 ∙ good ok l.i s.places c.loop-i-test.true
-          (sym c.keeps.ensures ∙ not-false c.keeps.result c.if-not-keeps.false),
+          (sym c.keeps.ensures ∙ c.if-not-keeps.false),
     )
 
 pub returns : goal.returns

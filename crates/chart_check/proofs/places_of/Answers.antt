@@ -34,7 +34,7 @@ returns-in-7 c = (rw c.in-7.is c.number-in-7.ensures.is, below c.number-in-7.ens
 
 pub returns-in_default : goal.returns-in_default
 returns-in_default c =
-    let n = c.in_default-own.rest in
+    let n = c.in_default.in_default-own.rest in
     let low = past _ 7 (past _ 6 (past _ 5 (past _ 4 (past _ 3 (past _ 2 (past _ 1 (past _ 0 (search rules) n.0.0.0.0.0.0.0.1) n.0.0.0.0.0.0.1) n.0.0.0.0.0.1) n.0.0.0.0.1) n.0.0.0.1) n.0.0.1) n.0.1) n.1 in
     let z : c.args.k ≡ 8 = only _ 8 low c.requires in
     (rw z c.number-in_default.ensures.is, below c.number-in_default.ensures.small)

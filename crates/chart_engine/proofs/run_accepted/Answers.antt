@@ -11,14 +11,14 @@ returns-then-not-is_state c =
     let s = c.args in
     let good = c.is_state in
     no_state (view s.t.now) s.state.now s.event s.outputs.now
-    (sym good.ensures ∙ not-true good.result c.if-not-is_state.true)
+    (sym good.ensures ∙ c.if-not-is_state.true)
 
 pub returns-then-head-wide : goal.returns-then-head-wide
 returns-then-head-wide c =
     let s = c.args in
     let good = c.is_state in
     no_event (view s.t.now) s.state.now s.event s.outputs.now
-    (sym good.ensures ∙ not-false good.result c.if-not-is_state.false)
+    (sym good.ensures ∙ c.if-not-is_state.false)
     (rw (c.head.ensures.is, c.wide.ensures.is) at c.if-head-wide.true)
 
 pub run_state-requires : goal.run_state-requires
@@ -31,7 +31,7 @@ run_state-requires c =
       or_states_lem = c.or_states-ors.ensures;
       number = words.ensures.0;
       few = words.ensures.1;
-      long = long_state (view s.t.now) s.state.now (sym good.ensures ∙ not-false good.result c.if-not-is_state.false);
+      long = long_state (view s.t.now) s.state.now (sym good.ensures ∙ c.if-not-is_state.false);
     }
 
 pub returns : goal.returns
@@ -41,4 +41,4 @@ returns c =
     let known = rw (c.wide.ensures.is, c.head.ensures.is) at c.if-head-wide.false in
     c.run_state.ensures
     ∙ sym (good_call (view s.t.now) s.state.now s.event s.outputs.now
-    (sym good.ensures ∙ not-false good.result c.if-not-is_state.false) known)
+    (sym good.ensures ∙ c.if-not-is_state.false) known)

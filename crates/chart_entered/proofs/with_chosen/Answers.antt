@@ -23,7 +23,7 @@ returns-then-not-same c =
     let v = view s.t.now in
     let led = c.with_led-led in
     let same = c.same in
-    let new = not-true same.result c.if-not-same.true in
+    let new = c.if-not-same.true in
     let towards : aimed v s.k s.o ≡ true =
     by_bool (aimed v s.k s.o) (λ a. a) (λ a. clash same.result (same.ensures.1 (led.ensures.1 a)) new) in
     λ j. led.ensures.0 j
@@ -42,7 +42,7 @@ returns-then-keeps_word c =
     let w = tree c.requires.0 in
     let led = c.with_led-led in
     let same = c.same in
-    let alike = same.ensures.0 (not-false same.result c.if-not-same.false) in
+    let alike = same.ensures.0 c.if-not-same.false in
     let none = none_led w s.o c.requires.2 s.current.now s.k c.requires.1 (cells s.entered) (cells led.result)
     c.requires.4 led.ensures.0 alike in
     let keeps = sym c.keeps_word.ensures ∙ c.if-keeps_word.true in
@@ -58,7 +58,7 @@ returns c =
     let w = tree c.requires.0 in
     let led = c.with_led-led in
     let same = c.same in
-    let alike = same.ensures.0 (not-false same.result c.if-not-same.false) in
+    let alike = same.ensures.0 c.if-not-same.false in
     let none = none_led w s.o c.requires.2 s.current.now s.k c.requires.1 (cells s.entered) (cells led.result)
     c.requires.4 led.ensures.0 alike in
     let keeps-none = sym c.keeps_word.ensures ∙ c.if-keeps_word.false in

@@ -21,7 +21,7 @@ unfolding do_steps
 returns-then-not-is_scoped c =
     let s = c.args in
     let v = view s.t.now in
-    let off = sym c.is_scoped.ensures ∙ not-true c.is_scoped.result c.if-not-is_scoped.true in
+    let off = sym c.is_scoped.ensures ∙ c.if-not-is_scoped.true in
     rw (fires_unscoped v s.next.now (cells s.acts) s.k off) (c.take_own.ensures s.next.now)
 
 pub scope_of-top-requires : goal.scope_of-top-requires
@@ -49,7 +49,7 @@ unfolding do_steps
 returns c =
     let s = c.args in
     let v = view s.t.now in
-    let on = sym c.is_scoped.ensures ∙ not-false c.is_scoped.result c.if-not-is_scoped.false in
+    let on = sym c.is_scoped.ensures ∙ c.if-not-is_scoped.false in
     fired v s.next.now (cells s.acts) s.k s.pairs _ _ _ _ on
     c.scope_of-top.ensures.is (c.leave_and_take-m.ensures s.next.now) c.enter.ensures
 

@@ -17,7 +17,7 @@ use Rattle.chart_moves.proofs.leave_one.Goals as goal
 pub returns-then-not-is_beneath : goal.returns-then-not-is_beneath
 unfolding do_steps leave_step
 returns-then-not-is_beneath c =
-    λ next. rw (sym c.is_beneath.ensures ∙ not-true c.is_beneath.result c.if-not-is_beneath.true) refl
+    λ next. rw (sym c.is_beneath.ensures ∙ c.if-not-is_beneath.true) refl
 
 pub state_at-requires : goal.state_at-requires
 state_at-requires c = let pre = c.requires in (chart_readable pre.0, pre.1)
@@ -36,7 +36,7 @@ returns c =
     let found = c.state_at in
     let at = ap (λ (i : ℕ). span_at s.t.now (i + 3)) found.ensures.0 in
     let below = c.is_beneath in
-    λ next. rw (sym below.ensures ∙ not-false below.result c.if-not-is_beneath.false)
+    λ next. rw (sym below.ensures ∙ c.if-not-is_beneath.false)
     (one_step s.pairs (leave_step v s.j) s.n _ _ _ next next _ _ _ _ _ _
     c.count_leave.ensures (span_does s.t.now _ _ at) refl c.run_span.ensures)
 

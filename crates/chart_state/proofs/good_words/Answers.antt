@@ -47,7 +47,7 @@ returns-then-not-good_word c =
     let s = c.args in
     let v = view s.t.now in
     let o = c.loop-o.o in
-    let bad = sym c.good_word.ensures ∙ not-true c.good_word.result c.if-not-good_word.true in
+    let bad = sym c.good_word.ensures ∙ c.if-not-good_word.true in
     sym (all_below_no (good_word? v s.current.now) v.states o (omega arith) bad)
 
 pub next-o-requires : goal.next-o-requires
@@ -65,7 +65,7 @@ loop-o-preserved c =
     let head = c.head-n in
     let ask = c.good_word in
     let next = c.next-o.ensures in
-    let good = sym ask.ensures ∙ not-false ask.result c.if-not-good_word.false in
+    let good = sym ask.ensures ∙ c.if-not-good_word.false in
     let none = no_or v (cells s.ors) c.requires.1 (o + 1) head.result _ head.ensures.0 next in (
       all_skip (good_word? v words) (o + 1) _ next.from (λ j k h. and_good v words j (none j k h))
           ∙ all_below_next (good_word? v words) o l.invariant.0 good,

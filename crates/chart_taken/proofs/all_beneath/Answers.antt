@@ -30,7 +30,7 @@ returns-then-not-is_beneath c =
     let v = view s.t.now in
     let told = c.is_beneath.ensures ∙ ap (beneath v s.o) c.target_word.ensures.is in
     sym (l.invariant.1 ∙ all_bad (beneath v s.o) v.target l.i l.left c.loop-left-test.true
-    (sym told ∙ not-true c.is_beneath.result c.if-not-is_beneath.true))
+    (sym told ∙ c.if-not-is_beneath.true))
 
 pub loop-left-preserved : goal.loop-left-preserved
 loop-left-preserved c =
@@ -40,7 +40,7 @@ loop-left-preserved c =
     let told = c.is_beneath.ensures ∙ ap (beneath v s.o) c.target_word.ensures.is in (
       omega arith,
       l.invariant.1 ∙ all_good (beneath v s.o) v.target l.i l.left c.loop-left-test.true
-          (sym told ∙ not-false c.is_beneath.result c.if-not-is_beneath.false),
+          (sym told ∙ c.if-not-is_beneath.false),
     )
 
 pub returns : goal.returns

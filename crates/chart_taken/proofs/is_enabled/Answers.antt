@@ -33,7 +33,7 @@ returns-then-not-has_in c =
     let trigger = c.transition_word_at.ensures.is in
     let source = c.has_in.ensures ∙ ap (in? s.acts) c.transition_word_at-2.ensures.is in
     let matched = eqb_yes c.if-transition_word_at-e.false in
-    rw (← trigger, matched, ← source, not-true c.has_in.result c.if-not-has_in.true)
+    rw (← trigger, matched, ← source, c.if-not-has_in.true)
 
 pub returns : goal.returns
 unfolding enabled
@@ -42,7 +42,7 @@ returns c =
     let trigger = c.transition_word_at.ensures.is in
     let source = c.has_in.ensures ∙ ap (in? s.acts) c.transition_word_at-2.ensures.is in
     let matched = eqb_yes c.if-transition_word_at-e.false in
-    let in_source = not-false c.has_in.result c.if-not-has_in.false in
+    let in_source = c.if-not-has_in.false in
     rw (← trigger, matched, ← source, in_source) c.meets_condition.ensures
 
 pub transition_word_at-requires : goal.transition_word_at-requires

@@ -43,7 +43,7 @@ returns-then-s-k c =
 pub returns-then-not-is_scoped_at : goal.returns-then-not-is_scoped_at
 returns-then-not-is_scoped_at c =
     let a = c.args in
-    let none = sym c.is_scoped_at.ensures ∙ not-true c.is_scoped_at.result c.if-not-is_scoped_at.true in
+    let none = sym c.is_scoped_at.ensures ∙ c.if-not-is_scoped_at.true in
     let each : (s : ℕ) → lets? (view a.t.now) (cells a.taken) a.k s ≡ true = λ s.
     rw (unscoped (view a.t.now) s a.k none) (lets (get_or (cells a.taken) s false)) in
     sym (all_below_all a.k (λ s h. each s))
@@ -60,7 +60,7 @@ returns-then-is_related c =
     let l = c.loop-s in
     let below = c.loop-s-test.true in
     let has = c.is_scoped_at in
-    let scoped = sym has.ensures ∙ not-false has.result c.if-not-is_scoped_at.false in
+    let scoped = sym has.ensures ∙ c.if-not-is_scoped_at.false in
     let top = c.scope_at-top in
     let told = near v l.s a.k top.result _ scoped top.ensures.0 c.is_related.ensures in
     let p = lets? v (cells a.taken) a.k in
@@ -78,7 +78,7 @@ loop-s-preserved c =
     let l = c.loop-s in
     let p = lets? v (cells a.taken) a.k in
     let has = c.is_scoped_at in
-    let scoped = sym has.ensures ∙ not-false has.result c.if-not-is_scoped_at.false in
+    let scoped = sym has.ensures ∙ c.if-not-is_scoped_at.false in
     let top = c.scope_at-top in
     let told = near v l.s a.k top.result _ scoped top.ensures.0 c.is_related.ensures in
     let this : p l.s ≡ true = rw (sym told ∙ c.if-is_related.false) (lets (get_or (cells a.taken) l.s false)) in

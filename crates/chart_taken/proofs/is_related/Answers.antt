@@ -10,13 +10,13 @@ use Rattle.chart_meaning.specs.Scope.{scope}
 use Rattle.chart_taken.proofs.is_related.Goals as goal
 
 pub returns-then-not-is_scoped : goal.returns-then-not-is_scoped
-returns-then-not-is_scoped c = rw (sym c.is_scoped.ensures ∙ not-true c.is_scoped.result c.if-not-is_scoped.true) refl
+returns-then-not-is_scoped c = rw (sym c.is_scoped.ensures ∙ c.if-not-is_scoped.true) refl
 
 pub returns-then-is_within : goal.returns-then-is_within
 returns-then-is_within c =
     let a = c.args in
     let v = view a.t.now in
-    let scoped = sym c.is_scoped.ensures ∙ not-false c.is_scoped.result c.if-not-is_scoped.false in
+    let scoped = sym c.is_scoped.ensures ∙ c.if-not-is_scoped.false in
     let at = ap (λ (x : ℕ). within v x a.b) c.scope_of-a.ensures.is in
     let first : within v (scope v a.s) a.b ≡ true = sym at ∙ sym c.is_within.ensures ∙ c.if-is_within.true in
     rw (scoped, first) refl
@@ -25,7 +25,7 @@ pub returns : goal.returns
 returns c =
     let a = c.args in
     let v = view a.t.now in
-    let scoped = sym c.is_scoped.ensures ∙ not-false c.is_scoped.result c.if-not-is_scoped.false in
+    let scoped = sym c.is_scoped.ensures ∙ c.if-not-is_scoped.false in
     let top = c.scope_of-a.ensures.is in
     let at = ap (λ (x : ℕ). within v x a.b) top in
     let first : within v (scope v a.s) a.b ≡ false = sym at ∙ sym c.is_within.ensures ∙ c.if-is_within.false in

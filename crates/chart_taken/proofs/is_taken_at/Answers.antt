@@ -7,10 +7,10 @@ pub returns-then-not-is_enabled : goal.returns-then-not-is_enabled
 unfolding taken_at
 returns-then-not-is_enabled c =
     let told = c.is_enabled in
-    rw (← told.ensures, not-true told.result c.if-not-is_enabled.true)
+    rw (← told.ensures, c.if-not-is_enabled.true)
 
 pub returns : goal.returns
 unfolding taken_at
 returns c =
     let told = c.is_enabled in
-    rw (← told.ensures, not-false told.result c.if-not-is_enabled.false) c.is_free.ensures
+    rw (← told.ensures, c.if-not-is_enabled.false) c.is_free.ensures

@@ -33,7 +33,7 @@ returns-then-not-does_hold c =
     let p = holds (cells s.acts) s.vars.now in
     let told = c.does_hold.ensures ∙ ap p c.literal_at.ensures in
     sym (l.invariant.1 ∙ all_bad p (literal v) l.i l.left c.loop-left-test.true
-    (sym told ∙ not-true c.does_hold.result c.if-not-does_hold.true))
+    (sym told ∙ c.if-not-does_hold.true))
 
 pub loop-left-preserved : goal.loop-left-preserved
 loop-left-preserved c =
@@ -44,7 +44,7 @@ loop-left-preserved c =
     let told = c.does_hold.ensures ∙ ap p c.literal_at.ensures in (
       omega arith,
       l.invariant.1 ∙ all_good p (literal v) l.i l.left c.loop-left-test.true
-          (sym told ∙ not-false c.does_hold.result c.if-not-does_hold.false),
+          (sym told ∙ c.if-not-does_hold.false),
     )
 
 pub returns : goal.returns

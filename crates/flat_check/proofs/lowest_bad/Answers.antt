@@ -25,7 +25,7 @@ returns-then-not-keeps c =
     let s = c.args in
     let l = c.loop-i in
     let ok = (rule_numbered (flat_rules s.t.now) s.k).keeps in
-    let fails = sym c.keeps.ensures ∙ not-true c.keeps.result c.if-not-keeps.true in
+    let fails = sym c.keeps.ensures ∙ c.if-not-keeps.true in
     (sym (l.invariant.1 ∙ bad ok l.i s.places c.loop-i-test.true fails), l.invariant.0)
 
 pub loop-i-preserved : goal.loop-i-preserved
@@ -33,7 +33,7 @@ loop-i-preserved c =
     let s = c.args in
     let l = c.loop-i in
     let ok = (rule_numbered (flat_rules s.t.now) s.k).keeps in
-    let holds = sym c.keeps.ensures ∙ not-false c.keeps.result c.if-not-keeps.false in
+    let holds = sym c.keeps.ensures ∙ c.if-not-keeps.false in
     (omega arith, l.invariant.1 ∙ good ok l.i s.places c.loop-i-test.true holds)
 
 pub returns : goal.returns

@@ -18,7 +18,7 @@ returns-in-6 c = (rw c.in-6.is c.number-in-6.ensures.is, search rules)
 
 pub returns-in_default : goal.returns-in_default
 returns-in_default c =
-    let n = c.in_default-own.rest in
+    let n = c.in_default.in_default-own.rest in
     let few = n.0.0.0 in
     let four = past _ 3 (past _ 2 (past _ 1 (past _ 0 (search rules) few.0.0.0.1) few.0.0.1) few.0.1) few.1 in
     let seven = past _ 6 (past _ 5 (past _ 4 four n.0.0.1) n.0.1) n.1 in

@@ -24,7 +24,7 @@ returns-then-not-is_of_machine c =
     let m = c.loop-m.m in
     let is = c.is_of_machine in
     let read = ap (of_machine? f m) c.number.ensures.is in
-    let bad = sym (is.ensures ∙ read) ∙ not-true is.result c.if-not-is_of_machine.true in
+    let bad = sym (is.ensures ∙ read) ∙ c.if-not-is_of_machine.true in
     sym (all_below_no (good_flat_word? f s.current.now) f.machines m
     (lt_of_lt_of_le c.loop-m-test.true
     (le_of_eq c.head-machines.ensures.is)) bad)
@@ -37,7 +37,7 @@ loop-m-preserved c =
     let l = c.loop-m in
     let is = c.is_of_machine in
     let read = ap (of_machine? f l.m) c.number.ensures.is in
-    let good = sym (is.ensures ∙ read) ∙ not-false is.result c.if-not-is_of_machine.false in
+    let good = sym (is.ensures ∙ read) ∙ c.if-not-is_of_machine.false in
     (next_in _ _ c.loop-m-test.true, all_below_next (good_flat_word? f s.current.now) l.m l.invariant.1 good)
 
 pub returns : goal.returns

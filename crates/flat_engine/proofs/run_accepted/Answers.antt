@@ -19,14 +19,14 @@ returns-then-not-is_state c =
     let s = c.args in
     let good = c.is_state in
     no_state (flat_view s.t.now) s.state.now s.event s.outputs.now
-    (sym good.ensures ∙ not-true good.result c.if-not-is_state.true)
+    (sym good.ensures ∙ c.if-not-is_state.true)
 
 pub returns-then-head-wide : goal.returns-then-head-wide
 returns-then-head-wide c =
     let s = c.args in
     let good = c.is_state in
     no_event (flat_view s.t.now) s.state.now s.event s.outputs.now
-    (sym good.ensures ∙ not-false good.result c.if-not-is_state.false)
+    (sym good.ensures ∙ c.if-not-is_state.false)
     (le_trans (le_of_eq (sym c.head.ensures.is)) (le_trans c.if-head-wide.true (le_of_eq c.wide.ensures.is)))
 
 pub slice_bounds-run_state-end : goal.slice_bounds-run_state-end
@@ -44,7 +44,7 @@ run_state-requires c =
     let marks = length-take-le (g.result / 16 + 1) (zeros 147) (bits_in _ _ g.ensures.0 pre.counts.guards.1) in (
       pre,
       bits_enough _ _ _ g.ensures.0 marks,
-      state_length_lem (flat_view s.t.now) s.state.now (sym good.ensures ∙ not-false good.result c.if-not-is_state.false),
+      state_length_lem (flat_view s.t.now) s.state.now (sym good.ensures ∙ c.if-not-is_state.false),
     )
 
 pub returns : goal.returns
@@ -53,7 +53,7 @@ returns c =
     let good = c.is_state in
     c.run_state.ensures
     ∙ sym (good_call (flat_view s.t.now) s.state.now s.event s.outputs.now
-    (sym good.ensures ∙ not-false good.result c.if-not-is_state.false)
+    (sym good.ensures ∙ c.if-not-is_state.false)
     (lt_of_le_of_lt (le_of_eq (sym c.wide.ensures.is)) (lt_of_lt_of_le c.if-head-wide.false (le_of_eq c.head.ensures.is))))
 
 pub is_state-requires : goal.is_state-requires

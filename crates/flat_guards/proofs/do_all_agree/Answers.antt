@@ -43,14 +43,14 @@ returns-then-not-does_agree c =
     let w = c.loop-left.invariant in
     let d = c.does_agree in
     sym (walk_bad w c.loop-left-test.true c.literal_at.ensures d.ensures
-    (not-true d.result c.if-not-does_agree.true))
+    c.if-not-does_agree.true)
 
 pub loop-left-preserved : goal.loop-left-preserved
 loop-left-preserved c =
     let w = c.loop-left.invariant in
     let d = c.does_agree in
     walk_good w c.loop-left-test.true c.literal_at.ensures d.ensures
-    (not-false d.result c.if-not-does_agree.false)
+    c.if-not-does_agree.false
 
 pub returns : goal.returns
 unfolding all_agree

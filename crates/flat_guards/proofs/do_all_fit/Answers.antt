@@ -58,7 +58,7 @@ returns-then-not-does_fit c =
     let on = c.loop-left-test.true in
     let v = c.loop-left.invariant in
     let d = c.does_fit in (
-      sym (walk_bad v.0 on c.literal_at-literal.ensures d.ensures (not-true d.result c.if-not-does_fit.true)),
+      sym (walk_bad v.0 on c.literal_at-literal.ensures d.ensures c.if-not-does_fit.true),
       (λ e. absurd (true≢false (sym e)), (v.2.more, v.2.above)),
     )
 
@@ -84,7 +84,7 @@ loop-left-preserved c =
     let read = c.literal_at-literal.ensures in
     let d = c.does_fit in
     let smaller = walk_smaller v.0 on p.0 p.1 read in (
-      walk_good v.0 on read d.ensures (not-false d.result c.if-not-does_fit.false),
+      walk_good v.0 on read d.ensures c.if-not-does_fit.false,
       c.marks-1.given ∙ v.1,
       asked_next v.2 read c.ask.ensures smaller (le_of_lt (lt_of_lt_of_le p.1 (room_kept _ _ _ p.2 v.1))),
     )

@@ -27,7 +27,7 @@ run_span-requires c =
 pub returns-then-not-does_fire : goal.returns-then-not-does_fire
 unfolding do_steps
 returns-then-not-does_fire c =
-    rw (sym c.does_fire.ensures ∙ not-true c.does_fire.result c.if-not-does_fire.true) refl
+    rw (sym c.does_fire.ensures ∙ c.if-not-does_fire.true) refl
 
 pub returns : goal.returns
 unfolding do_steps rule_step
@@ -38,7 +38,7 @@ returns c =
     let fires = c.does_fire in
     let does = rule.result + 3 in
     let at : span_at s.t.now does ≡ f.does s.k = ap (λ (n : ℕ). span_at s.t.now (n + 3)) rule.ensures.0 in
-    rw (sym fires.ensures ∙ not-false fires.result c.if-not-does_fire.false)
+    rw (sym fires.ensures ∙ c.if-not-does_fire.false)
     (one_step s.pairs (rule_step f s.k) s.n _ _ _ s.next.now _ _ _ _ _ _ _
     c.count_fire.ensures (span_does s.t.now does ∙ ap (flat_items_of f) at) c.aim.ensures c.run_span.ensures)
 

@@ -49,7 +49,7 @@ unfolding good_guard?
 returns-then-not-good_literal c =
     let s = c.args in
     let f = flat_view s.t.now in
-    let fails = sym (told c.before) ∙ not-true c.good_literal.result c.if-not-good_literal.true in
+    let fails = sym (told c.before) ∙ c.if-not-good_literal.true in
     sym (ap (all_below (held? f s.k)) (sym (count_read c.before.before.before.before))
     ∙ all_below_no (held? f s.k) _ c.loop-i.i c.loop-i-test.true fails)
 
@@ -58,7 +58,7 @@ loop-i-preserved c =
     let s = c.args in
     let f = flat_view s.t.now in
     let l = c.loop-i in
-    let holds = sym (told c.before) ∙ not-false c.good_literal.result c.if-not-good_literal.false in
+    let holds = sym (told c.before) ∙ c.if-not-good_literal.false in
     (next_in _ _ c.loop-i-test.true, all_below_next (held? f s.k) l.i l.invariant.1 holds)
 
 pub returns : goal.returns

@@ -15,7 +15,7 @@ returns-then-not-has c =
     let v = view s.t.now in
     let has = c.has in
     let told : asked v s.j ≡ false =
-    sym (c.requires.2 s.j c.requires.1) ∙ sym has.ensures ∙ not-true has.result c.if-not-has.true in
+    sym (c.requires.2 s.j c.requires.1) ∙ sym has.ensures ∙ c.if-not-has.true in
     (rw told penned_none, (omega arith, omega arith))
 
 pub put_active-end-requires : goal.put_active-end-requires
@@ -25,7 +25,7 @@ put_active-end-requires c =
     let has = c.has in
     let told : asked v s.j ≡ true =
     sym (c.requires.2 s.j c.requires.1) ∙ sym has.ensures
-    ∙ not-false has.result c.if-not-has.false in
+    ∙ c.if-not-has.false in
     (c.requires.0, c.requires.1, asked_and v s.j told, c.requires.3, c.requires.4, omega arith)
 
 pub returns-then-spans : goal.returns-then-spans
@@ -35,7 +35,7 @@ returns-then-spans c =
     let has = c.has in
     let told : asked v s.j ≡ true =
     sym (c.requires.2 s.j c.requires.1) ∙ sym has.ensures
-    ∙ not-false has.result c.if-not-has.false in
+    ∙ c.if-not-has.false in
     let counted = c.put_active-end.ensures in
     let size = c.put_size.ensures in (
       rw (told, c.if-spans.true)
@@ -50,7 +50,7 @@ put_active-requires c =
     let has = c.has in
     let told : asked v s.j ≡ true =
     sym (c.requires.2 s.j c.requires.1) ∙ sym has.ensures
-    ∙ not-false has.result c.if-not-has.false in
+    ∙ c.if-not-has.false in
     (c.requires.0, c.requires.1, asked_and v s.j told, c.requires.3, c.requires.4, omega arith)
 
 pub returns : goal.returns
@@ -60,7 +60,7 @@ returns c =
     let has = c.has in
     let told : asked v s.j ≡ true =
     sym (c.requires.2 s.j c.requires.1) ∙ sym has.ensures
-    ∙ not-false has.result c.if-not-has.false in
+    ∙ c.if-not-has.false in
     let laid = c.put_active.ensures in
     let end = c.behind.ensures in (
       rw (told, c.if-spans.false)

@@ -16,7 +16,7 @@ returns-then-not-has c =
     let v = view s.t.now in
     let has = c.has in
     let told : forks v s.k s.j ≡ false =
-    sym (c.requires.3 s.j c.requires.4) ∙ sym has.ensures ∙ not-true has.result c.if-not-has.true in
+    sym (c.requires.3 s.j c.requires.4) ∙ sym has.ensures ∙ c.if-not-has.true in
     (rw told penned_none, (omega arith, omega arith))
 
 pub put_entered-end-requires : goal.put_entered-end-requires
@@ -26,7 +26,7 @@ put_entered-end-requires c =
     let has = c.has in
     let told : forks v s.k s.j ≡ true =
     sym (c.requires.3 s.j c.requires.4) ∙ sym has.ensures
-    ∙ not-false has.result c.if-not-has.false in
+    ∙ c.if-not-has.false in
     let is = fork_and v (tree c.requires.0) s.k s.j c.requires.4 told in (
       c.requires.0,
       c.requires.1,
@@ -46,7 +46,7 @@ returns-then-spans c =
     let has = c.has in
     let told : forks v s.k s.j ≡ true =
     sym (c.requires.3 s.j c.requires.4) ∙ sym has.ensures
-    ∙ not-false has.result c.if-not-has.false in
+    ∙ c.if-not-has.false in
     let counted = c.put_entered-end.ensures in
     let size = c.put_size.ensures in (
       rw (told, c.if-spans.true)
@@ -61,7 +61,7 @@ put_entered-requires c =
     let has = c.has in
     let told : forks v s.k s.j ≡ true =
     sym (c.requires.3 s.j c.requires.4) ∙ sym has.ensures
-    ∙ not-false has.result c.if-not-has.false in
+    ∙ c.if-not-has.false in
     let is = fork_and v (tree c.requires.0) s.k s.j c.requires.4 told in (
       c.requires.0,
       c.requires.1,
@@ -83,7 +83,7 @@ returns c =
     let has = c.has in
     let told : forks v s.k s.j ≡ true =
     sym (start.pre.3 s.j start.pre.4) ∙ sym has.ensures
-    ∙ not-false has.result c.if-not-has.false in
+    ∙ c.if-not-has.false in
     let laid = c.put_entered.ensures in
     let end = c.behind.ensures in (
       rw (told, c.if-spans.false)

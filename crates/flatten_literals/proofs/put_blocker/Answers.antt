@@ -8,12 +8,12 @@ use Rattle.flatten_literals.proofs.put_blocker.Goals as goal
 pub returns-then-not-does_block : goal.returns-then-not-does_block
 returns-then-not-does_block c =
     let asked = c.does_block in
-    (rw (← asked.ensures, not-true asked.result c.if-not-does_block.true) laid_none, omega arith)
+    (rw (← asked.ensures, c.if-not-does_block.true) laid_none, omega arith)
 
 pub returns : goal.returns
 returns c =
     let s = c.args.s in
     let asked = c.does_block in
     let g = c.word.ensures ∙ c.requires.3 s c.requires.1 in
-    let blocks = not-false asked.result c.if-not-does_block.false in
+    let blocks = c.if-not-does_block.false in
     (rw (← asked.ensures, blocks, ← g) c.put_fails.ensures.told, omega arith)

@@ -13,20 +13,20 @@ pub returns-then-not-is_and : goal.returns-then-not-is_and
 returns-then-not-is_and c =
     let s = c.args in
     let out : is_and (view s.t.now) s.j ≡ false =
-    sym c.is_and.ensures ∙ not-true c.is_and.result c.if-not-is_and.true in
+    sym c.is_and.ensures ∙ c.if-not-is_and.true in
     (rw out refl, omega arith)
 
 pub returns-then-fork : goal.returns-then-fork
 returns-then-fork c =
     let s = c.args in
     let is : is_and (view s.t.now) s.j ≡ true =
-    sym c.is_and.ensures ∙ not-false c.is_and.result c.if-not-is_and.false in
+    sym c.is_and.ensures ∙ c.if-not-is_and.false in
     (rw (is, c.if-fork.true) refl, omega arith)
 
 pub above_number-requires : goal.above_number-requires
 above_number-requires c =
     let is_and_lem = c.is_and in
-    let and = sym is_and_lem.ensures ∙ not-false is_and_lem.result c.if-not-is_and.false in
+    let and = sym is_and_lem.ensures ∙ c.if-not-is_and.false in
     let up = up_lt (tree c.requires.0) c.args.j c.requires.1 and in
     (c.requires.0, c.requires.1, omega (arith, c.requires.1), c.requires.2)
 
@@ -34,7 +34,7 @@ pub returns : goal.returns
 returns c =
     let s = c.args in
     let is : is_and (view s.t.now) s.j ≡ true =
-    sym c.is_and.ensures ∙ not-false c.is_and.result c.if-not-is_and.false in
+    sym c.is_and.ensures ∙ c.if-not-is_and.false in
     (rw (is, c.if-fork.false) c.above_number.ensures.is, c.above_number.ensures.small)
 
 pub is_and-requires : goal.is_and-requires

@@ -17,7 +17,7 @@ returns-then-not-has_exits c =
     let runs = c.has_exits in
     sym (quits_nothing (is_and v s.j) (scoped v s.k && beneath v (scope v s.k) s.j)
     (meets v (v.source s.k) s.j) (some? (v.exits s.j))
-    (sym runs.ensures ∙ not-true runs.result c.if-not-has_exits.true))
+    (sym runs.ensures ∙ c.if-not-has_exits.true))
 
 pub returns-then-not-is_inside : goal.returns-then-not-is_inside
 unfolding quits
@@ -27,7 +27,7 @@ returns-then-not-is_inside c =
     let inside = c.is_inside in
     let told = rw c.requires.3 at inside.ensures in
     sym (quits_outside (is_and v s.j) (scoped v s.k && beneath v (scope v s.k) s.j)
-    (meets v (v.source s.k) s.j) (some? (v.exits s.j)) (sym told ∙ not-true inside.result c.if-not-is_inside.true))
+    (meets v (v.source s.k) s.j) (some? (v.exits s.j)) (sym told ∙ c.if-not-is_inside.true))
 
 pub can_meet-requires : goal.can_meet-requires
 can_meet-requires c =
@@ -47,8 +47,8 @@ returns c =
     meet
     ∙ sym (quits_together (is_and v s.j) (scoped v s.k && beneath v (scope v s.k) s.j)
     (meets v (v.source s.k) s.j) (some? (v.exits s.j))
-    (sym runs.ensures ∙ not-false runs.result c.if-not-has_exits.false)
-    (sym told ∙ not-false inside.result c.if-not-is_inside.false))
+    (sym runs.ensures ∙ c.if-not-has_exits.false)
+    (sym told ∙ c.if-not-is_inside.false))
 
 pub has_exits-requires : goal.has_exits-requires
 has_exits-requires c = search chart_needs

@@ -29,7 +29,7 @@ returns-then-not-are_related c =
     let same : eqb (v.trigger s.s) (v.trigger s.k) ≡ true =
     rw (← first, ← second) (eqb_yes c.if-transition_word.false) in
     let near = c.are_related in
-    rw (same, sym near.ensures ∙ not-true near.result c.if-not-are_related.true)
+    rw (same, sym near.ensures ∙ c.if-not-are_related.true)
 
 pub can_meet-requires : goal.can_meet-requires
 can_meet-requires c =
@@ -50,7 +50,7 @@ returns c =
     let near = c.are_related in
     let sources = ap₂ (meets v) c.transition_word-3.ensures.is c.transition_word-4.ensures.is in
     let meet = c.can_meet.ensures ∙ sources in
-    rw (same, sym near.ensures ∙ not-false near.result c.if-not-are_related.false) meet
+    rw (same, sym near.ensures ∙ c.if-not-are_related.false) meet
 
 pub transition_word-requires : goal.transition_word-requires
 transition_word-requires c = search chart_needs

@@ -20,7 +20,7 @@ returns-then-not-has c =
     let s = c.args in
     let has = c.has in
     let told : comes (view s.t.now) s.k s.j ≡ false =
-    sym (c.requires.2 s.j c.requires.3) ∙ sym has.ensures ∙ not-true has.result c.if-not-has.true in
+    sym (c.requires.2 s.j c.requires.3) ∙ sym has.ensures ∙ c.if-not-has.true in
     (rw told laid_none, omega arith)
 
 -- what a rule enters is an and-state, and so has a parent
@@ -29,7 +29,7 @@ target_of-requires c =
     let s = c.args in
     let v = view s.t.now in
     let has = c.has in
-    let told = sym (c.requires.2 s.j c.requires.3) ∙ sym has.ensures ∙ not-false has.result c.if-not-has.false in
+    let told = sym (c.requires.2 s.j c.requires.3) ∙ sym has.ensures ∙ c.if-not-has.false in
     let up = up_lt (tree c.requires.0) s.j c.requires.3 (comes_and v s.k s.j c.requires.3 told) in
     (c.requires.0, c.requires.1, c.requires.3, omega (arith, up, c.requires.3), c.requires.4)
 

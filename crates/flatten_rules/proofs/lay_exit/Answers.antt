@@ -14,7 +14,7 @@ use Rattle.flatten_rules.proofs.lay_exit.Goals as goal
 pub returns-then-not-can_quit : goal.returns-then-not-can_quit
 returns-then-not-can_quit c =
     let asked = c.can_quit in
-    (rw (← asked.ensures, not-true asked.result c.if-not-can_quit.true) laid_none, omega arith)
+    (rw (← asked.ensures, c.if-not-can_quit.true) laid_none, omega arith)
 
 pub returns : goal.returns
 unfolding exit_rule
@@ -31,7 +31,7 @@ returns c =
     let row = same_row c.trigger_of.ensures taken active first count refl in
     let put = c.put_rule.ensures in
     let rule = one_rule (exit_rule v s.k s.j) row put.0 put.1 in
-    (rw (← asked.ensures, not-false asked.result c.if-not-can_quit.false) rule, omega arith)
+    (rw (← asked.ensures, c.if-not-can_quit.false) rule, omega arith)
 
 pub state_at-requires : goal.state_at-requires
 state_at-requires c = search chart_needs

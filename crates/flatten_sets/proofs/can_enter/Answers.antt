@@ -14,12 +14,12 @@ use Rattle.flatten_sets.proofs.can_enter.Goals as goal
 
 pub returns-then-not-is_and : goal.returns-then-not-is_and
 unfolding may_at
-returns-then-not-is_and c = rw (sym c.is_and.ensures ∙ not-true c.is_and.result c.if-not-is_and.true)
+returns-then-not-is_and c = rw (sym c.is_and.ensures ∙ c.if-not-is_and.true)
 
 pub is_reached-requires : goal.is_reached-requires
 is_reached-requires c =
     let is_and_lem = c.is_and in
-    let and = sym is_and_lem.ensures ∙ not-false is_and_lem.result c.if-not-is_and.false in
+    let and = sym is_and_lem.ensures ∙ c.if-not-is_and.false in
     let up = up_lt (tree c.requires.0) c.args.j c.requires.2 and in
     (c.requires.0, c.requires.2, omega (arith, c.requires.2))
 
@@ -28,8 +28,8 @@ unfolding may_at
 returns-then-not-is_reached c =
     let s = c.args in
     let v = view s.t.now in
-    let and = not-false c.is_and.result c.if-not-is_and.false in
-    let out = not-true c.is_reached.result c.if-not-is_reached.true in
+    let and = c.if-not-is_and.false in
+    let out = c.if-not-is_reached.true in
     let by-scope = ap (λ (o : ℕ). reached v o s.j (cells s.can)) c.requires.3 in
     let not-reached = sym (c.is_reached.ensures ∙ by-scope) ∙ out in
     rw (sym c.is_and.ensures ∙ and, not-reached)
@@ -37,7 +37,7 @@ returns-then-not-is_reached c =
 pub can_choose-requires : goal.can_choose-requires
 can_choose-requires c =
     let is_and_lem = c.is_and in
-    let and = sym is_and_lem.ensures ∙ not-false is_and_lem.result c.if-not-is_and.false in
+    let and = sym is_and_lem.ensures ∙ c.if-not-is_and.false in
     let up = up_lt (tree c.requires.0) c.args.j c.requires.2 and in
     (c.requires.0, c.requires.1, c.requires.2, omega (arith, c.requires.2))
 
@@ -46,8 +46,8 @@ unfolding may_at
 returns c =
     let s = c.args in
     let v = view s.t.now in
-    let and = not-false c.is_and.result c.if-not-is_and.false in
-    let in_reach = not-false c.is_reached.result c.if-not-is_reached.false in
+    let and = c.if-not-is_and.false in
+    let in_reach = c.if-not-is_reached.false in
     let by-scope = ap (λ (o : ℕ). reached v o s.j (cells s.can)) c.requires.3 in
     let is-reached = sym (c.is_reached.ensures ∙ by-scope) ∙ in_reach in
     rw (sym c.is_and.ensures ∙ and, is-reached) c.can_choose.ensures

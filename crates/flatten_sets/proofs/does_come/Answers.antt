@@ -17,14 +17,14 @@ unfolding comes
 returns-then-not-has c =
     let has = c.has in
     let told = has.ensures ∙ c.requires.3 in
-    rw (sym told ∙ not-true has.result c.if-not-has.true)
+    rw (sym told ∙ c.if-not-has.true)
 
 pub is_decided-requires : goal.is_decided-requires
 is_decided-requires c =
     let s = c.args in
     let pre = c.requires in
     let has = c.has in
-    let enters = sym (has.ensures ∙ pre.3) ∙ not-false has.result c.if-not-has.false in
+    let enters = sym (has.ensures ∙ pre.3) ∙ c.if-not-has.false in
     (pre.0, pre.1, pre.2, may_parent (view s.t.now) (tree pre.0) s.k s.j pre.2 enters)
 
 pub returns-then-not-is_decided : goal.returns-then-not-is_decided
@@ -34,8 +34,8 @@ returns-then-not-is_decided c =
     let told = has.ensures ∙ c.requires.3 in
     let free = c.is_decided in
     rw (
-      sym told ∙ not-false has.result c.if-not-has.false,
-      sym free.ensures ∙ not-true free.result c.if-not-is_decided.true,
+      sym told ∙ c.if-not-has.false,
+      sym free.ensures ∙ c.if-not-is_decided.true,
     )
 
 pub returns : goal.returns
@@ -48,8 +48,8 @@ returns c =
     let free = c.is_decided in
     let count = c.state_word.ensures.is ∙ count_word in
     rw (
-      sym told ∙ not-false has.result c.if-not-has.false,
-      sym free.ensures ∙ not-false free.result c.if-not-is_decided.false,
+      sym told ∙ c.if-not-has.false,
+      sym free.ensures ∙ c.if-not-is_decided.false,
       ← count,
     )
 

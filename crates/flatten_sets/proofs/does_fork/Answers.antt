@@ -24,7 +24,7 @@ returns-then-not-both c =
     let told = both.ensures ∙ ap₂ ◌&&◌ in-can in-need in
     sym (forks_not (may v s.k s.j) (decides v s.k s.j)
     (any_below (λ i. within v s.j i && comes v s.k i) v.states)
-    (sym told ∙ not-true both.result c.if-not-both.true))
+    (sym told ∙ c.if-not-both.true))
 
 pub is_decided-requires : goal.is_decided-requires
 is_decided-requires c =
@@ -35,7 +35,7 @@ is_decided-requires c =
     let in-can = c.has.ensures ∙ pre.3 in
     let in-need = c.has-2.ensures ∙ pre.4 in
     let told = both.ensures ∙ ap₂ ◌&&◌ in-can in-need in
-    let enters = and_l (may v s.k s.j) _ (sym told ∙ not-false both.result c.if-not-both.false) in
+    let enters = and_l (may v s.k s.j) _ (sym told ∙ c.if-not-both.false) in
     (pre.0, pre.1, pre.2, may_parent v (tree pre.0) s.k s.j pre.2 enters)
 
 pub returns : goal.returns
@@ -51,4 +51,4 @@ returns c =
     c.is_decided.ensures
     ∙ sym (forks_so (may v s.k s.j) (decides v s.k s.j)
     (any_below (λ i. within v s.j i && comes v s.k i) v.states)
-    (sym told ∙ not-false both.result c.if-not-both.false))
+    (sym told ∙ c.if-not-both.false))

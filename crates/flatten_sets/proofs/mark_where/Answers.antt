@@ -13,11 +13,11 @@ pub returns-then-not-b : goal.returns-then-not-b
 returns-then-not-b c =
     let s = c.args in
     let v = view s.t.now in
-    λ i h. not_marked (get_or (cells s.set) i false) (within v i s.j) s.b (not-true s.b c.if-not-b.true)
+    λ i h. not_marked (get_or (cells s.set) i false) (within v i s.j) s.b c.if-not-b.true
 
 pub returns : goal.returns
 returns c =
     let s = c.args in
     let v = view s.t.now in
     λ i h. c.mark_up.ensures i h
-    ∙ is_marked (get_or (cells s.set) i false) (within v i s.j) s.b (not-false s.b c.if-not-b.false)
+    ∙ is_marked (get_or (cells s.set) i false) (within v i s.j) s.b c.if-not-b.false

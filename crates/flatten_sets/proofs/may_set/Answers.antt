@@ -19,7 +19,7 @@ pub returns-then-not-is_scoped : goal.returns-then-not-is_scoped
 unfolding may
 returns-then-not-is_scoped c =
     let has = c.is_scoped in
-    let not-scoped = sym has.ensures ∙ not-true has.result c.if-not-is_scoped.true in
+    let not-scoped = sym has.ensures ∙ c.if-not-is_scoped.true in
     λ j h. rw not-scoped (empty (cells c.none-can.result) c.none-can.ensures j)
 
 pub loop-j-init : goal.loop-j-init
@@ -51,7 +51,7 @@ returns c =
     let s = c.args in
     let v = view s.t.now in
     let has = c.is_scoped in
-    let is-scoped = sym has.ensures ∙ not-false has.result c.if-not-is_scoped.false in
+    let is-scoped = sym has.ensures ∙ c.if-not-is_scoped.false in
     let e : c.loop-j.j ≡ v.states = omega (arith, c.number-n.ensures.is) in
     λ j h. rw is-scoped
     (c.loop-j.invariant.1.made j ∙ ap (λ (n : ℕ). get_or (tab (may_at v s.k) n) j false) e)

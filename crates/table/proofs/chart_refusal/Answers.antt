@@ -36,7 +36,7 @@ returns-in-8 c = rw c.in-8.is refl
 
 pub returns-in_default : goal.returns-in_default
 returns-in_default c =
-    let n = c.in_default-own.rest in
+    let n = c.in_default.in_default-own.rest in
     let low = past _ 8 (past _ 7 (past _ 6 (past _ 5 (past _ 4 (past _ 3 (past _ 2 (past _ 1 c.requires.0 n.0.0.0.0.0.0.0.1) n.0.0.0.0.0.0.1) n.0.0.0.0.0.1) n.0.0.0.0.1) n.0.0.0.1) n.0.0.1) n.0.1) n.1 in
     let z : c.args.rule ≡ 9 = only _ 9 low c.requires.1 in
     rw z refl

@@ -33,7 +33,7 @@ returns-in-17 c = rw c.in-17.is refl
 
 pub returns-in_default : goal.returns-in_default
 returns-in_default c =
-    let n = c.in_default-own.rest in
+    let n = c.in_default.in_default-own.rest in
     let low = past _ 17 (past _ 16 (past _ 15 (past _ 14 (past _ 13 (past _ 12 (past _ 11 c.requires.0 n.0.0.0.0.0.0.1) n.0.0.0.0.0.1) n.0.0.0.0.1) n.0.0.0.1) n.0.0.1) n.0.1) n.1 in
     let z : c.args.rule ≡ 18 = only _ 18 low c.requires.1 in
     rw z refl

@@ -38,6 +38,6 @@ pub returns-in_default : goal.returns-in_default
 unfolding good_item?
 returns-in_default c =
     let k = c.args.kind in
-    let n = c.in_default-own.rest in
+    let n = c.in_default.in_default-own.rest in
     let three = past k 2 (past k 1 (past k 0 (omega arith) n.0.0.0.0.0.1) n.0.0.0.0.1) n.0.0.0.1 in
     rw (ltb_no k 6 (past k 5 (past k 4 (past k 3 three n.0.0.1) n.0.1) n.1))
