@@ -6,9 +6,9 @@ use Rattle.chart.proofs.is_and_state.Goals as goal
 pub returns-then-a-head : goal.returns-then-a-head
 returns-then-a-head c =
     let n = c.head in
-    rw (← n.ensures.0, ltb_yes c.args.a n.result c.if-a-head.true) c.is_and.ensures
+    rw (← n.ensures.is, ltb_yes c.args.a n.result c.if-a-head.true) c.is_and.ensures
 
 pub returns : goal.returns
 returns c =
     let n = c.head in
-    rw (← n.ensures.0, ltb_no c.args.a n.result c.if-a-head.false) refl
+    rw (← n.ensures.is, ltb_no c.args.a n.result c.if-a-head.false) refl

@@ -6,9 +6,9 @@ use Rattle.chart.proofs.is_child.Goals as goal
 pub returns-then-j-head : goal.returns-then-j-head
 returns-then-j-head c =
     let n = c.head in
-    rw (← n.ensures.0, ltb_yes c.args.j n.result c.if-j-head.true, c.state_word.ensures.is)
+    rw (← n.ensures.is, ltb_yes c.args.j n.result c.if-j-head.true, c.state_word.ensures.is)
 
 pub returns : goal.returns
 returns c =
     let n = c.head in
-    rw (← n.ensures.0, ltb_no c.args.j n.result c.if-j-head.false) refl
+    rw (← n.ensures.is, ltb_no c.args.j n.result c.if-j-head.false) refl

@@ -11,13 +11,13 @@ use Rattle.chart.proofs.meeting_of.Goals as goal
 pub returns-then-n-a : goal.returns-then-n-a
 returns-then-n-a c =
     let s = c.args in
-    (sym (meets_none (view s.t.now) s.a s.b (omega (arith, c.head-n.ensures.is))), search rules)
+    record { is = sym (meets_none (view s.t.now) s.a s.b (omega (arith, c.head-n.ensures.is))); small = search rules }
 
 pub returns-then-n-b : goal.returns-then-n-b
 returns-then-n-b c =
     let s = c.args in
     let v = view s.t.now in
-    (sym (meeting_swap v s.a s.b ∙ meets_none v s.b s.a (omega (arith, c.head-n.ensures.is))), search rules)
+    record { is = sym (meeting_swap v s.a s.b ∙ meets_none v s.b s.a (omega (arith, c.head-n.ensures.is))); small = search rules }
 
 pub loop-x-init : goal.loop-x-init
 loop-x-init c =
@@ -30,7 +30,7 @@ returns-then-y-up c =
     let l = c.loop-x in
     let v = view c.args.t.now in
     let e = c.state_word-up.ensures.is in
-    (sym (l.invariant.2 ∙ meets_nowhere v l.x l.y c.if-x-y.true l.invariant.1 (omega arith)), search rules)
+    record { is = sym (l.invariant.2 ∙ meets_nowhere v l.x l.y c.if-x-y.true l.invariant.1 (omega arith)); small = search rules }
 
 pub loop-x-preserved-then-x-y : goal.loop-x-preserved-then-x-y
 loop-x-preserved-then-x-y c =
@@ -48,7 +48,7 @@ returns-then-x-up c =
     let l = c.loop-x in
     let v = view c.args.t.now in
     let e = c.state_word-up-else-x-y.ensures.is in
-    (sym (l.invariant.2 ∙ meeting_swap v l.x l.y ∙ meets_nowhere v l.y l.x (omega arith) l.invariant.0 (omega arith)), search rules)
+    record { is = sym (l.invariant.2 ∙ meeting_swap v l.x l.y ∙ meets_nowhere v l.y l.x (omega arith) l.invariant.0 (omega arith)); small = search rules }
 
 pub loop-x-preserved : goal.loop-x-preserved
 loop-x-preserved c =
@@ -64,4 +64,4 @@ returns c =
     let v = view c.args.t.now in
     let e : l.x ≡ l.y = c.loop-x-test.false in
     let n = c.head-n.ensures in
-    (sym (l.invariant.2 ∙ ap (meeting v l.x) (sym e) ∙ meets_itself v l.x l.invariant.0), omega (arith, l.invariant.0, n.0, n.1))
+    record { is = sym (l.invariant.2 ∙ ap (meeting v l.x) (sym e) ∙ meets_itself v l.x l.invariant.0); small = omega (arith, l.invariant.0, n.is, n.small) }

@@ -2,4 +2,4 @@
 use Rattle.chart.proofs.transition_word.Goals as goal
 
 pub returns : goal.returns
-returns c = (rw (c.number_in.ensures.is, c.transition_at.ensures.is), c.number_in.ensures.small)
+returns c = record { is = rw (c.number_in.ensures.is, c.transition_at.ensures.is); small = c.number_in.ensures.small }

@@ -2,4 +2,4 @@
 use Rattle.chart.proofs.transition_word_at.Goals as goal
 
 pub returns : goal.returns
-returns c = (rw (c.number_in.ensures.is, c.requires.2), c.number_in.ensures.small)
+returns c = record { is = rw (c.number_in.ensures.is, c.requires.2); small = c.number_in.ensures.small }

@@ -32,7 +32,7 @@ loop-o-preserved c =
     let l = c.loop-o in
     let head = c.head-n in
     going_next (tree c.requires.0) s.current.now (cells s.ors) c.requires.1 head.result l.o l.r _
-    (cells l.acts) _ head.ensures.0 (omega arith) l.invariant c.show-acts.ensures c.next-o.ensures
+    (cells l.acts) _ head.ensures.is (omega arith) l.invariant c.show-acts.ensures c.next-o.ensures
 
 pub returns : goal.returns
 returns c =

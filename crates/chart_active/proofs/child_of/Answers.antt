@@ -4,4 +4,4 @@ use Rattle.chart_active.proofs.child_of.Goals as goal
 
 pub returns : goal.returns
 unfolding child
-returns c = (rw (c.number.ensures.is, c.requires), c.number.ensures.small)
+returns c = record { is = rw (c.number.ensures.is, c.requires); small = c.number.ensures.small }

@@ -19,7 +19,7 @@ returns c =
     let few = c.requires.0.counts.states.1 in
     let half = ors_half (tree c.requires.0) in
     let is : c.rank_of.result ≡ or_states v = c.rank_of.ensures ∙ ap (or_rank v) c.head.ensures.is in
-    (is, omega arith)
+    record { is = is; few = omega arith }
 
 pub head-requires : goal.head-requires
 head-requires c = search chart_needs

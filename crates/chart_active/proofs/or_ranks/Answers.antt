@@ -47,7 +47,7 @@ returns c =
     let few = c.requires.0.counts.states.1 in
     let half = ors_half (tree c.requires.0) in
     let is = c.wide.ensures.is ∙ l.invariant.2 ∙ ap (rank (is_or v)) e in
-    (is, (omega arith, λ k h. l.invariant.3 k (omega arith)))
+    record { is = is; few = omega arith; ranks = λ k h. l.invariant.3 k (omega arith) }
 
 pub head-n-requires : goal.head-n-requires
 head-n-requires c = search chart_needs

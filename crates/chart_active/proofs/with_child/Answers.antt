@@ -23,8 +23,8 @@ returns-then-is_child c =
     let s = c.args in
     let v = view s.t.now in
     let w = c.child_of-w in
-    let is = ap (child_of? v s.o) (sym w.ensures.0) ∙ sym c.is_child.ensures ∙ c.if-is_child.true in
-    rw is (c.add.ensures ∙ rw (w.ensures.0, c.add-with.ensures))
+    let is = ap (child_of? v s.o) (sym w.ensures.is) ∙ sym c.is_child.ensures ∙ c.if-is_child.true in
+    rw is (c.add.ensures ∙ rw (w.ensures.is, c.add-with.ensures))
 
 pub returns : goal.returns
 unfolding with_child
@@ -32,7 +32,7 @@ returns c =
     let s = c.args in
     let v = view s.t.now in
     let w = c.child_of-w in
-    let is = ap (child_of? v s.o) (sym w.ensures.0) ∙ sym c.is_child.ensures ∙ c.if-is_child.false in
+    let is = ap (child_of? v s.o) (sym w.ensures.is) ∙ sym c.is_child.ensures ∙ c.if-is_child.false in
     rw is c.add-with.ensures
 
 pub is_child-requires : goal.is_child-requires

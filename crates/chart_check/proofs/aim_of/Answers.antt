@@ -2,4 +2,4 @@
 use Rattle.chart_check.proofs.aim_of.Goals as goal
 
 pub returns : goal.returns
-returns c = (rw (c.target_word.ensures.is, c.transition_word.ensures.is), c.target_word.ensures.small)
+returns c = record { is = rw (c.target_word.ensures.is, c.transition_word.ensures.is); small = c.target_word.ensures.small }

@@ -24,11 +24,9 @@ pub returns-then-not-keeps : goal.returns-then-not-keeps
 returns-then-not-keeps c =
     let s = c.args in
     let l = c.loop-i in
-    let ok = (rule_numbered (chart_rules s.t.now) s.k).keeps in (
-      sym (l.invariant.1 ∙ bad ok l.i s.places c.loop-i-test.true
-          (sym c.keeps.ensures ∙ c.if-not-keeps.true)),
-      l.invariant.0,
-    )
+    let ok = (rule_numbered (chart_rules s.t.now) s.k).keeps in
+    record { is = sym (l.invariant.1 ∙ bad ok l.i s.places c.loop-i-test.true
+          (sym c.keeps.ensures ∙ c.if-not-keeps.true)); small = l.invariant.0 }
 
 pub loop-i-preserved : goal.loop-i-preserved
 loop-i-preserved c =
@@ -46,4 +44,4 @@ returns c =
     let l = c.loop-i in
     let ok = (rule_numbered (chart_rules s.t.now) s.k).keeps in
     let e : s.places ≡ l.i = omega arith in
-    (sym (l.invariant.1 ∙ none ok l.i s.places l.invariant.0 c.loop-i-test.false ∙ e), l.invariant.0)
+    record { is = sym (l.invariant.1 ∙ none ok l.i s.places l.invariant.0 c.loop-i-test.false ∙ e); small = l.invariant.0 }

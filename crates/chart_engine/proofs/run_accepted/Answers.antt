@@ -29,8 +29,8 @@ run_state-requires c =
     record {
       rules = c.requires;
       or_states_lem = c.or_states-ors.ensures;
-      number = words.ensures.0;
-      few = words.ensures.1;
+      number = words.ensures.is;
+      few = words.ensures.few;
       long = long_state (view s.t.now) s.state.now (sym good.ensures ∙ c.if-not-is_state.false);
     }
 

@@ -29,7 +29,7 @@ has_in-requires c =
     let rules = c.requires.0 in
     let above = c.state_word-o in
     let o = above.result in
-    let in_states : o < v.states = omega (arith, c.requires.2, above.ensures.0) in
+    let in_states : o < v.states = omega (arith, c.requires.2, above.ensures.is) in
     let smaller = parent_smaller v o (rules.places o in_states) c.if-o-eq0.false in
     let few = rules.counts.states.1 in
     omega (arith, c.state_word.ensures.is)

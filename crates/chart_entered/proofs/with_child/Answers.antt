@@ -23,16 +23,14 @@ returns-then-is_child c =
     let v = view s.t.now in
     let t = sym c.is_child.ensures ∙ c.if-is_child.true in
     let is = (child_told v s.o s.w).told t in
-    let few = c.requires.counts.states.1 in (
-      child_more v s.o s.w (cells s.entered) _ (omega (arith, is.0, few, cells_length s.entered)) t c.add.ensures,
-      λ e. clash (child_of? v s.o s.w) t e,
-    )
+    let few = c.requires.counts.states.1 in
+    record { more = child_more v s.o s.w (cells s.entered) _ (omega (arith, is.0, few, cells_length s.entered)) t c.add.ensures; none = λ e. clash (child_of? v s.o s.w) t e }
 
 pub returns : goal.returns
 returns c =
     let s = c.args in
     let t = sym c.is_child.ensures ∙ c.if-is_child.false in
-    (child_none (view s.t.now) s.o s.w (cells s.entered) t, λ e. refl)
+    record { more = child_none (view s.t.now) s.o s.w (cells s.entered) t; none = λ e. refl }
 
 pub is_child-requires : goal.is_child-requires
 is_child-requires c = search chart_needs

@@ -25,8 +25,8 @@ returns-then-not-same c =
     let same = c.same in
     let new = c.if-not-same.true in
     let towards : aimed v s.k s.o ≡ true =
-    by_bool (aimed v s.k s.o) (λ a. a) (λ a. clash same.result (same.ensures.1 (led.ensures.1 a)) new) in
-    λ j. led.ensures.0 j
+    by_bool (aimed v s.k s.o) (λ a. a) (λ a. clash same.result (same.ensures.other (led.ensures.none a)) new) in
+    λ j. led.ensures.more j
     ∙ ap (λ (b : Bool). get_or (cells s.entered) j false || b)
     (chosen_led (tree c.requires.0) s.o c.requires.2 s.current.now s.k towards j)
 
@@ -42,9 +42,9 @@ returns-then-keeps_word c =
     let w = tree c.requires.0 in
     let led = c.with_led-led in
     let same = c.same in
-    let alike = same.ensures.0 c.if-not-same.false in
+    let alike = same.ensures.alike c.if-not-same.false in
     let none = none_led w s.o c.requires.2 s.current.now s.k c.requires.1 (cells s.entered) (cells led.result)
-    c.requires.4 led.ensures.0 alike in
+    c.requires.4 led.ensures.more alike in
     let keeps = sym c.keeps_word.ensures ∙ c.if-keeps_word.true in
     λ j. c.with_child.ensures.more j
     ∙ ap (λ (b : Bool). get_or (cells s.entered) j false || b)
@@ -58,9 +58,9 @@ returns c =
     let w = tree c.requires.0 in
     let led = c.with_led-led in
     let same = c.same in
-    let alike = same.ensures.0 c.if-not-same.false in
+    let alike = same.ensures.alike c.if-not-same.false in
     let none = none_led w s.o c.requires.2 s.current.now s.k c.requires.1 (cells s.entered) (cells led.result)
-    c.requires.4 led.ensures.0 alike in
+    c.requires.4 led.ensures.more alike in
     let keeps-none = sym c.keeps_word.ensures ∙ c.if-keeps_word.false in
     λ j. c.with_child-2.ensures.more j
     ∙ ap (λ (b : Bool). get_or (cells s.entered) j false || b)

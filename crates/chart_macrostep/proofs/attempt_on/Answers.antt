@@ -133,15 +133,15 @@ returns-then-is_told c =
     let v = c.head-v in
     let n = c.go-n in
     let wide = words_wide pre.0 pre.1 in
-    let wide-vars = vars_wide pre.0 pre.2 v.ensures.0 in
+    let wide-vars = vars_wide pre.0 pre.2 v.ensures.is in
     told_tried (view s.t.now) s.pairs s.event.0 s.words v.result s.state.now s.outs.now s.queue.now
-    pre.0.number (words_behind pre.0 v.ensures.0) s.next.now s.vars.now _ _ wide wide-vars
+    pre.0.number (words_behind pre.0 v.ensures.is) s.next.now s.vars.now _ _ wide wide-vars
     c.load.ensures c.load-2.ensures _ n.result _ _ _ _ c.start.ensures n.ensures
     (ap (told? n.result) (sym c.outs-1.given) ∙ sym c.is_told.ensures ∙ c.if-is_told.true)
     (c.next-2-1.given.0
     ∙ length-take-le s.words _ (words_wide pre.0 (c.next-1.given.1 ∙ pre.1)))
     (c.vars-2-1.given.0
-    ∙ length-take-le v.result _ (vars_wide pre.0 (c.vars-1.given.1 ∙ pre.2) v.ensures.0))
+    ∙ length-take-le v.result _ (vars_wide pre.0 (c.vars-1.given.1 ∙ pre.2) v.ensures.is))
     _ _ _ _ c.lay_rest.ensures
     (c.state-1.given.0 ∙ length-take-le s.words s.state.now (front_fits pre.0))
     c.store.ensures
@@ -162,8 +162,8 @@ returns-else-is_told c =
     let v = c.head-v in
     let n = c.go-n in
     let wide = words_wide pre.0 pre.1 in
-    let wide-vars = vars_wide pre.0 pre.2 v.ensures.0 in
+    let wide-vars = vars_wide pre.0 pre.2 v.ensures.is in
     untold_tried (view s.t.now) s.pairs s.event.0 s.words v.result s.state.now s.outs.now s.queue.now
-    pre.0.number (words_behind pre.0 v.ensures.0) s.next.now s.vars.now _ _ wide wide-vars
+    pre.0.number (words_behind pre.0 v.ensures.is) s.next.now s.vars.now _ _ wide wide-vars
     c.load.ensures c.load-2.ensures _ n.result _ _ _ _ c.start.ensures n.ensures
     (ap (told? n.result) (sym c.outs-1.given) ∙ sym c.is_told.ensures ∙ c.if-is_told.false)

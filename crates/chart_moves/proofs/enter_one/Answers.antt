@@ -37,7 +37,7 @@ pub run_span-requires : goal.run_span-requires
 run_span-requires c =
     let at = c.state_at in
     let rules = c.requires.0 in
-    span_in at.result 5 6 (lit< tt) rules at.ensures.1 (rw at.ensures.0 (rules.state_spans c.args.j c.requires.1).entries)
+    span_in at.result 5 6 (lit< tt) rules at.ensures.inside (rw at.ensures.is (rules.state_spans c.args.j c.requires.1).entries)
 
 pub returns : goal.returns
 unfolding enter_step
@@ -45,7 +45,7 @@ returns c =
     let s = c.args in
     let v = view s.t.now in
     let found = c.state_at in
-    let at = ap (λ (i : ℕ). span_at s.t.now (i + 5)) found.ensures.0 in
+    let at = ap (λ (i : ℕ). span_at s.t.now (i + 5)) found.ensures.is in
     let up = c.state_word-o.ensures.is in
     let rank = c.rank_of.ensures ∙ ap (or_rank v) up in
     one_step s.pairs (enter_step v s.j) s.n _ _ _ s.next.now _ _ _ _ _ _ _

@@ -26,7 +26,7 @@ pub run_span-requires : goal.run_span-requires
 run_span-requires c =
     let at = c.state_at in
     let rules = c.requires.0 in
-    span_in at.result 3 6 (lit< tt) rules at.ensures.1 (rw at.ensures.0 (rules.state_spans c.args.j c.requires.1).exits)
+    span_in at.result 3 6 (lit< tt) rules at.ensures.inside (rw at.ensures.is (rules.state_spans c.args.j c.requires.1).exits)
 
 pub returns : goal.returns
 unfolding do_steps leave_step
@@ -34,7 +34,7 @@ returns c =
     let s = c.args in
     let v = view s.t.now in
     let found = c.state_at in
-    let at = ap (λ (i : ℕ). span_at s.t.now (i + 3)) found.ensures.0 in
+    let at = ap (λ (i : ℕ). span_at s.t.now (i + 3)) found.ensures.is in
     let below = c.is_beneath in
     λ next. rw (sym below.ensures ∙ c.if-not-is_beneath.false)
     (one_step s.pairs (leave_step v s.j) s.n _ _ _ next next _ _ _ _ _ _

@@ -19,7 +19,7 @@ pub run_span-requires : goal.run_span-requires
 run_span-requires c =
     let at = c.transition_at in
     let rules = c.requires.0 in
-    span_in at.result 4 7 (lit< tt) rules at.ensures.1 (rw at.ensures.0 (rules.transition_spans c.args.k c.requires.1).items)
+    span_in at.result 4 7 (lit< tt) rules at.ensures.inside (rw at.ensures.is (rules.transition_spans c.args.k c.requires.1).items)
 
 pub returns : goal.returns
 unfolding take_step
@@ -27,7 +27,7 @@ returns c =
     let s = c.args in
     let v = view s.t.now in
     let found = c.transition_at in
-    let at = ap (λ (i : ℕ). span_at s.t.now (i + 4)) found.ensures.0 in
+    let at = ap (λ (i : ℕ). span_at s.t.now (i + 4)) found.ensures.is in
     λ next.
     one_step s.pairs (take_step v s.k) s.n _ _ _ next next _ _ _ _ _ _
     c.count_fire.ensures (span_does s.t.now _ _ at) refl c.run_span.ensures

@@ -8,7 +8,7 @@ unfolding good_spans?
 returns-then-p-n c =
     let n = c.head-n in
     let p = c.args.p in
-    rw (c.good_state_spans.ensures, rw n.ensures.0 at (ltb_yes p n.result c.if-p-n.true))
+    rw (c.good_state_spans.ensures, rw n.ensures.is at (ltb_yes p n.result c.if-p-n.true))
 
 pub returns : goal.returns
 unfolding good_spans?
@@ -17,6 +17,6 @@ returns c =
     let p = c.args.p in
     rw (
       c.good_transition_spans.ensures,
-      n.ensures.0,
-      rw n.ensures.0 at (ltb_no p n.result c.if-p-n.false),
+      n.ensures.is,
+      rw n.ensures.is at (ltb_no p n.result c.if-p-n.false),
     )

@@ -8,7 +8,7 @@ pub returns-then-k-parent : goal.returns-then-k-parent
 returns-then-k-parent c =
     let p = c.state_word-parent in
     let k = c.args.k in
-    rw (← p.ensures.0, ltb_no p.result k c.if-k-parent.true, and-false)
+    rw (← p.ensures.is, ltb_no p.result k c.if-k-parent.true, and-false)
 
 pub returns : goal.returns
 returns c =
@@ -21,6 +21,6 @@ returns c =
       c.differs-alternates.ensures,
       c.is_and-2.ensures,
       c.is_and.ensures,
-      ← p.ensures.0,
+      ← p.ensures.is,
       below,
     )

@@ -66,11 +66,11 @@ loop-o-preserved c =
     let ask = c.good_word in
     let next = c.next-o.ensures in
     let good = sym ask.ensures ∙ c.if-not-good_word.false in
-    let none = no_or v (cells s.ors) c.requires.1 (o + 1) head.result _ head.ensures.0 next in (
+    let none = no_or v (cells s.ors) c.requires.1 (o + 1) head.result _ head.ensures.is next in (
       all_skip (good_word? v words) (o + 1) _ next.from (λ j k h. and_good v words j (none j k h))
           ∙ all_below_next (good_word? v words) o l.invariant.0 good,
       going_next (tree c.requires.0) words (cells s.ors) c.requires.1 head.result o l.r _ (cells l.acts) _
-          head.ensures.0 (omega arith) l.invariant.1 c.show-acts.ensures next,
+          head.ensures.is (omega arith) l.invariant.1 c.show-acts.ensures next,
     )
 
 pub returns : goal.returns

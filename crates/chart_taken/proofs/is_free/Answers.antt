@@ -62,7 +62,7 @@ returns-then-is_related c =
     let has = c.is_scoped_at in
     let scoped = sym has.ensures ∙ c.if-not-is_scoped_at.false in
     let top = c.scope_at-top in
-    let told = near v l.s a.k top.result _ scoped top.ensures.0 c.is_related.ensures in
+    let told = near v l.s a.k top.result _ scoped top.ensures.is c.is_related.ensures in
     let p = lets? v (cells a.taken) a.k in
     sym (all_below_no p a.k l.s below (rw (l.invariant.member below, sym told ∙ c.if-is_related.true)))
 
@@ -80,7 +80,7 @@ loop-s-preserved c =
     let has = c.is_scoped_at in
     let scoped = sym has.ensures ∙ c.if-not-is_scoped_at.false in
     let top = c.scope_at-top in
-    let told = near v l.s a.k top.result _ scoped top.ensures.0 c.is_related.ensures in
+    let told = near v l.s a.k top.result _ scoped top.ensures.is c.is_related.ensures in
     let this : p l.s ≡ true = rw (sym told ∙ c.if-is_related.false) (lets (get_or (cells a.taken) l.s false)) in
     pass v (cells a.taken) a.k _ _ (all_below_next p l.s l.invariant.let_be this) c.next-s-in-loop-s.ensures
 

@@ -37,7 +37,7 @@ returns-then-is_above_all c =
     let up = parent_smaller v l.o (rules.places l.o l.invariant.state) (λ z. omega arith) in
     let parent = c.state_word-o.ensures.is in
     let told = ap (above_all v s.k) (sym parent) ∙ sym c.is_above_all.ensures ∙ c.if-is_above_all.true in
-    (parent ∙ found v s.k l.o l.invariant up told, omega arith)
+    record { is = parent ∙ found v s.k l.o l.invariant up told; small = omega arith }
 
 pub loop-o-smaller : goal.loop-o-smaller
 loop-o-smaller c =
@@ -62,7 +62,7 @@ pub returns : goal.returns
 returns c =
     let s = c.args in
     let l = c.loop-o in
-    (at_root (view s.t.now) s.k l.o c.loop-o-test.false l.invariant, l.invariant.state)
+    record { is = at_root (view s.t.now) s.k l.o c.loop-o-test.false l.invariant; small = l.invariant.state }
 
 pub transition_word_at-o-requires : goal.transition_word_at-o-requires
 transition_word_at-o-requires c = search chart_needs

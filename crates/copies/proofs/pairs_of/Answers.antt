@@ -6,7 +6,7 @@ use Rattle.words.proofs.Tests.{ltb_yes, ltb_no}
 use Rattle.copies.proofs.pairs_of.Goals as goal
 
 pub returns-then-pairs-gt256 : goal.returns-then-pairs-gt256
-returns-then-pairs-gt256 c = (rw (ltb_yes 256 (c.args.lent / 2) c.if-pairs-gt256.true) refl, omega arith)
+returns-then-pairs-gt256 c = record { is = rw (ltb_yes 256 (c.args.lent / 2) c.if-pairs-gt256.true) refl; few = omega arith }
 
 pub returns : goal.returns
-returns c = (rw (ltb_no 256 (c.args.lent / 2) c.if-pairs-gt256.false) refl, omega (arith, c.if-pairs-gt256.false))
+returns c = record { is = rw (ltb_no 256 (c.args.lent / 2) c.if-pairs-gt256.false) refl; few = omega (arith, c.if-pairs-gt256.false) }

@@ -2,4 +2,4 @@
 use Rattle.effects.proofs.advanced.Goals as goal
 
 pub returns : goal.returns
-returns c = rw c.wrapping_add_u64.ensures
+returns c = rw c.wrapping_add_u64.ensures.value

@@ -8,4 +8,4 @@ pub returns : goal.returns
 returns c =
     let s = c.args in
     let place = ap (λ (n : ℕ). get_or s.t.now (n + s.m) 0) c.head.ensures.is in
-    (c.number_in.ensures.is ∙ place, c.number_in.ensures.small)
+    record { is = c.number_in.ensures.is ∙ place; small = c.number_in.ensures.small }

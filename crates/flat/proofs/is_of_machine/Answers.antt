@@ -9,9 +9,9 @@ pub returns-then-j-head : goal.returns-then-j-head
 returns-then-j-head c =
     let n = c.head in
     let s = c.args in
-    rw (← n.ensures.0, ltb_yes s.j n.result c.if-j-head.true) (ap (λ (k : ℕ). eqb k s.m) c.machine_of.ensures.is)
+    rw (← n.ensures.is, ltb_yes s.j n.result c.if-j-head.true) (ap (λ (k : ℕ). eqb k s.m) c.machine_of.ensures.is)
 
 pub returns : goal.returns
 returns c =
     let n = c.head in
-    rw (← n.ensures.0, ltb_no c.args.j n.result c.if-j-head.false)
+    rw (← n.ensures.is, ltb_no c.args.j n.result c.if-j-head.false)

@@ -26,7 +26,7 @@ returns-then-not-keeps c =
     let l = c.loop-i in
     let ok = (rule_numbered (flat_rules s.t.now) s.k).keeps in
     let fails = sym c.keeps.ensures ∙ c.if-not-keeps.true in
-    (sym (l.invariant.1 ∙ bad ok l.i s.places c.loop-i-test.true fails), l.invariant.0)
+    record { is = sym (l.invariant.1 ∙ bad ok l.i s.places c.loop-i-test.true fails); small = l.invariant.0 }
 
 pub loop-i-preserved : goal.loop-i-preserved
 loop-i-preserved c =
@@ -42,4 +42,4 @@ returns c =
     let l = c.loop-i in
     let ok = (rule_numbered (flat_rules s.t.now) s.k).keeps in
     let e : s.places ≡ l.i = omega arith in
-    (sym (l.invariant.1 ∙ none ok l.i s.places l.invariant.0 c.loop-i-test.false ∙ e), l.invariant.0)
+    record { is = sym (l.invariant.1 ∙ none ok l.i s.places l.invariant.0 c.loop-i-test.false ∙ e); small = l.invariant.0 }

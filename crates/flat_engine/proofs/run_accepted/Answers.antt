@@ -33,7 +33,7 @@ pub slice_bounds-run_state-end : goal.slice_bounds-run_state-end
 slice_bounds-run_state-end c =
     let g = c.head-2 in
     sym (length-take-le (g.result / 16 + 1) (zeros 147)
-    (bits_in _ _ g.ensures.0 c.requires.counts.guards.1))
+    (bits_in _ _ g.ensures.is c.requires.counts.guards.1))
 
 pub run_state-requires : goal.run_state-requires
 run_state-requires c =
@@ -41,9 +41,9 @@ run_state-requires c =
     let pre = c.requires in
     let good = c.is_state in
     let g = c.head-2 in
-    let marks = length-take-le (g.result / 16 + 1) (zeros 147) (bits_in _ _ g.ensures.0 pre.counts.guards.1) in (
+    let marks = length-take-le (g.result / 16 + 1) (zeros 147) (bits_in _ _ g.ensures.is pre.counts.guards.1) in (
       pre,
-      bits_enough _ _ _ g.ensures.0 marks,
+      bits_enough _ _ _ g.ensures.is marks,
       state_length_lem (flat_view s.t.now) s.state.now (sym good.ensures ∙ c.if-not-is_state.false),
     )
 

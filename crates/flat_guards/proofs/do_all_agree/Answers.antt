@@ -17,8 +17,8 @@ loop-left-init c =
     let first = c.number_in-i.ensures in
     let left = c.number_in-left.ensures in
     let s = c.args in
-    walk_start s.t.now s.k c.guard_at-at.ensures.is first.0 c.head.ensures.is
-    left.0 first.1 left.1
+    walk_start s.t.now s.k c.guard_at-at.ensures.is first.is c.head.ensures.is
+    left.is first.small left.small
 
 pub literal_at-requires : goal.literal_at-requires
 literal_at-requires c =

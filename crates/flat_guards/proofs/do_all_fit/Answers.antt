@@ -36,9 +36,9 @@ loop-left-init c =
     let begins = c.guard_at-at.ensures.is in
     let first = c.number_in-i.ensures in
     let left = c.number_in-left.ensures in (
-      walk_start s.t.now s.k begins first.0 c.head.ensures.is left.0 first.1 left.1,
+      walk_start s.t.now s.k begins first.is c.head.ensures.is left.is first.small left.small,
       refl,
-      asked_none (span_first s.t.now s.k begins first.0),
+      asked_none (span_first s.t.now s.k begins first.is),
     )
 
 pub literal_at-literal-requires : goal.literal_at-literal-requires
@@ -57,10 +57,8 @@ unfolding all_fit
 returns-then-not-does_fit c =
     let on = c.loop-left-test.true in
     let v = c.loop-left.invariant in
-    let d = c.does_fit in (
-      sym (walk_bad v.0 on c.literal_at-literal.ensures d.ensures c.if-not-does_fit.true),
-      (λ e. absurd (true≢false (sym e)), (v.2.more, v.2.above)),
-    )
+    let d = c.does_fit in
+    record { is = sym (walk_bad v.0 on c.literal_at-literal.ensures d.ensures c.if-not-does_fit.true); asked = λ e. absurd (true≢false (sym e)); more = v.2.more; above = v.2.above }
 
 -- the guard that a literal asks for is smaller, so it has a mark
 pub ask-requires : goal.ask-requires
@@ -92,13 +90,8 @@ loop-left-preserved c =
 pub returns : goal.returns
 unfolding all_fit
 returns c =
-    let v = c.loop-left.invariant in (
-      sym (walk_end v.0 c.loop-left-test.false),
-      (
-        λ e a n. v.2.asked n.literal n.from (walk_past v.0 c.loop-left-test.false _ n.within) a n.asks,
-        (v.2.more, v.2.above),
-      ),
-    )
+    let v = c.loop-left.invariant in
+    record { is = sym (walk_end v.0 c.loop-left-test.false); asked = λ e a n. v.2.asked n.literal n.from (walk_past v.0 c.loop-left-test.false _ n.within) a n.asks; more = v.2.more; above = v.2.above }
 
 pub guard_at-at-requires : goal.guard_at-at-requires
 guard_at-at-requires c = (

@@ -10,8 +10,8 @@ returns c =
     let sifted = c.sift.ensures in
     let settled = c.settle.ensures in
     λ k h asked.
-    settled_value (flat_view s.t.now) c.requires.0.guards s.current.now s.vars.now _ _ sifted.1 settled k h
-    (sifted.0 k h asked)
+    settled_value (flat_view s.t.now) c.requires.0.guards s.current.now s.vars.now _ _ sifted.sifted settled k h
+    (sifted.kept k h asked)
 
 pub sift-requires : goal.sift-requires
 sift-requires c = c.requires

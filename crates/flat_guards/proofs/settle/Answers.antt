@@ -37,7 +37,7 @@ pub next-k-requires-in-loop-k : goal.next-k-requires-in-loop-k
 next-k-requires-in-loop-k c =
     let n = c.head-guards.ensures in
     let long = ⊎_elim (λ w. ap length w.5 ∙ w.3.given) (λ w. ap length w.1) c.if-not-do_all_agree.branch in
-    (room_kept _ (length c.loop-k.marks) _ (le_trans (le_of_eq n.0) (room c.before.before.before.before.before)) long, n.1)
+    (room_kept _ (length c.loop-k.marks) _ (le_trans (le_of_eq n.is) (room c.before.before.before.before.before)) long, n.small)
 
 pub loop-k-smaller : goal.loop-k-smaller
 loop-k-smaller c = less_beyond _ _ _ c.loop-k-test.true c.next-k-in-loop-k.ensures.from

@@ -80,11 +80,11 @@ loop-k-preserved c =
     let has-mark = lt_of_lt_of_le below (room_kept _ _ _ (room c.before.before.before.before.before.before.before.before) same) in
     let b = fit.result in
     let tried : Tried (marked marks) (marked if1.marks) k (all_fit f words vars k) =
-    rw (← fit.ensures.0)
+    rw (← fit.ensures.is)
     (⊎_elim (λ w. rw (w.5 ∙ w.2.ensures) (tried_goes k marks b (not-true b w.0.taken) has-mark))
     (λ w. rw w.1 (tried_stays k marks b (not-false b w.0.left))) if1.branch) in
     let next = gone_on f words vars asked k below (c.requires.0.guards k below) (marked l.marks) _ _
-    (λ y. fit.ensures.1.0 (fit.ensures.0 ∙ y)) fit.ensures.1.1.0 fit.ensures.1.1.1 tried (rw one at l.invariant.2) in (
+    (λ y. fit.ensures.asked.0 (fit.ensures.is ∙ y)) fit.ensures.asked.1.0 fit.ensures.asked.1.1 tried (rw one at l.invariant.2) in (
       le_trans c.last-k-in-loop-k.ensures.up_to (le_of_lt below),
       long ∙ l.invariant.1,
       gone_past f words vars asked _ _ _ next c.last-k-in-loop-k.ensures,
@@ -99,7 +99,7 @@ returns c =
     let asked = marked s.marks.now in
     let l = c.loop-k in
     let g = rw (none_left l.k c.loop-k-test.false) at l.invariant.2 in
-    (λ k h. gone_kept f words vars asked _ g k, gone_sifted f words vars asked _ g)
+    record { kept = λ k h. gone_kept f words vars asked _ g k; sifted = gone_sifted f words vars asked _ g }
 
 pub head-requires : goal.head-requires
 head-requires c = (flat_readable c.requires.0, lit< tt)

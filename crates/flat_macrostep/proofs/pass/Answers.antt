@@ -72,7 +72,7 @@ returns-then-is_told c =
     told_hands s.state.now s.outputs.now ran.result _ _ _ _ l.lent told
     (told_pass f.events (flat_machine f) (λ w. w) s.state.now s.outputs.now s.event.0 (length s.next.now)
     (length s.kept.now) (flat_machine_small pre.0) (flat_machine_tame pre.0) pre.2 pairs.result (length l.next) l.lent
-    l.outputs _ l.queue pairs.ensures.0 l.invariant.1 l.invariant.4 refl (l.invariant.3 ∙ pre.1.queue_long) l.invariant.5
+    l.outputs _ l.queue pairs.ensures.is l.invariant.1 l.invariant.4 refl (l.invariant.3 ∙ pre.1.queue_long) l.invariant.5
     ran.result _ _ _ _ ran.ensures told)
 
 -- so is what is kept of them
@@ -111,7 +111,7 @@ returns-then-is_stopped c =
     stop_hands s.state.now s.outputs.now ran.result _ _ _ _ stops
     (stop_pass f.events (flat_machine f) (λ w. w) s.state.now s.outputs.now s.event.0 (length s.next.now)
     (length s.kept.now) (flat_machine_small pre.0) (flat_machine_tame pre.0) pre.2 pairs.result (length l.next) l.lent
-    l.outputs _ l.queue pairs.ensures.0 l.invariant.1 l.invariant.4 refl (l.invariant.3 ∙ pre.1.queue_long) l.invariant.5
+    l.outputs _ l.queue pairs.ensures.is l.invariant.1 l.invariant.4 refl (l.invariant.3 ∙ pre.1.queue_long) l.invariant.5
     ran.result _ _ _ _ ran.ensures _ _ c.outputs-1.given.0 c.load.ensures c.load-in-loop-event.ensures stops)
 
 pub loop-event-smaller : goal.loop-event-smaller
@@ -125,7 +125,7 @@ loop-event-smaller c =
     let again =
     again_pass f.events (flat_machine f) (λ w. w) s.state.now s.outputs.now s.event.0 (length s.next.now)
     (length s.kept.now) (flat_machine_small pre.0) (flat_machine_tame pre.0) pre.2 pairs.result (length l.next) l.lent
-    l.outputs _ l.queue pairs.ensures.0 l.invariant.1 l.invariant.4 refl (l.invariant.3 ∙ pre.1.queue_long) l.invariant.5
+    l.outputs _ l.queue pairs.ensures.is l.invariant.1 l.invariant.4 refl (l.invariant.3 ∙ pre.1.queue_long) l.invariant.5
     ran.result _ _ _ _ ran.ensures _ _ c.outputs-1.given.0 c.load.ensures c.load-in-loop-event.ensures
     (sym c.is_stopped.ensures ∙ c.if-is_stopped.false) (sym c.is_told.ensures ∙ c.if-is_told.false) in
     all_lent _ _ again.2
@@ -141,7 +141,7 @@ loop-event-preserved c =
     let again =
     again_pass f.events (flat_machine f) (λ w. w) s.state.now s.outputs.now s.event.0 (length s.next.now)
     (length s.kept.now) (flat_machine_small pre.0) (flat_machine_tame pre.0) pre.2 pairs.result (length l.next) l.lent
-    l.outputs _ l.queue pairs.ensures.0 l.invariant.1 l.invariant.4 refl (l.invariant.3 ∙ pre.1.queue_long) l.invariant.5
+    l.outputs _ l.queue pairs.ensures.is l.invariant.1 l.invariant.4 refl (l.invariant.3 ∙ pre.1.queue_long) l.invariant.5
     ran.result _ _ _ _ ran.ensures _ _ c.outputs-1.given.0 c.load.ensures c.load-in-loop-event.ensures
     (sym c.is_stopped.ensures ∙ c.if-is_stopped.false) (sym c.is_told.ensures ∙ c.if-is_told.false) in (
       c.marks-1.given ∙ l.invariant.0,

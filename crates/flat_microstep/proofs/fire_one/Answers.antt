@@ -37,7 +37,7 @@ returns c =
     let f = flat_view s.t.now in
     let fires = c.does_fire in
     let does = rule.result + 3 in
-    let at : span_at s.t.now does ≡ f.does s.k = ap (λ (n : ℕ). span_at s.t.now (n + 3)) rule.ensures.0 in
+    let at : span_at s.t.now does ≡ f.does s.k = ap (λ (n : ℕ). span_at s.t.now (n + 3)) rule.ensures.is in
     rw (sym fires.ensures ∙ c.if-not-does_fire.false)
     (one_step s.pairs (rule_step f s.k) s.n _ _ _ s.next.now _ _ _ _ _ _ _
     c.count_fire.ensures (span_does s.t.now does ∙ ap (flat_items_of f) at) c.aim.ensures c.run_span.ensures)

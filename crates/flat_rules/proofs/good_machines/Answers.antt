@@ -23,6 +23,6 @@ good_machine-requires c = (c.requires.0, lt_of_lt_of_le c.if-p-machines.true (le
 
 pub good_state-requires : goal.good_state-requires
 good_state-requires c = (
-      c.requires.0,
-      behind_machines _ _ _ _ c.head-machines.ensures.is c.if-p-machines.false c.requires.1,
-    )
+  c.requires.0,
+  behind_machines _ _ _ _ c.head-machines.ensures.is c.if-p-machines.false c.requires.1,
+)

@@ -34,7 +34,7 @@ rule_word-requires-2 c = (c.requires.0, c.requires.1, lit< tt)
 
 pub rule_word-requires-3 : goal.rule_word-requires-3
 rule_word-requires-3 c = (
-      c.requires.0,
-      c.requires.1,
-      lit< tt,
-    )
+  c.requires.0,
+  c.requires.1,
+  lit< tt,
+)

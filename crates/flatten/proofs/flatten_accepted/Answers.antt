@@ -12,4 +12,4 @@ returns-then-room-room_needed c =
 pub returns : goal.returns
 returns c =
     let words = c.lay_table.ensures in
-    wrote c.requires (omega (arith, c.room_needed.ensures)) words.0 words.1
+    wrote c.requires (omega (arith, c.room_needed.ensures)) words.long words.room

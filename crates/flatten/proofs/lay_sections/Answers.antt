@@ -45,7 +45,7 @@ returns c =
     let d = c.lay_items-rules.ensures in
     let e = c.lay_rules.ensures in
     let all =
-    laid_both (spans_laid v c.args.room.now a.0 a.1)
-    (laid_both (literals_laid v _ b.0 b.1)
-    (laid_both (record { place = d.0; laid = d.1 }) (record { place = e.0; laid = e.1 }))) in
-    (all.place, all.laid)
+    laid_both (spans_laid v c.args.room.now a.pen a.room)
+    (laid_both (literals_laid v _ b.pen b.room)
+    (laid_both (record { place = d.next; laid = d.room }) (record { place = e.next; laid = e.room }))) in
+    record { next = all.place; room = all.laid }

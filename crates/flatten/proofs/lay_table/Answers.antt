@@ -60,8 +60,8 @@ returns c =
     let b = c.lay_sections.ensures in
     let all =
     laid_as (encode_is g)
-    (laid_both (heading_laid g c.args.room.now a.0 a.1) (record { place = b.0; laid = b.1 })) in
-    (encode_long g a.0 b.0, all.laid)
+    (laid_both (heading_laid g c.args.room.now a.next a.room) (record { place = b.next; laid = b.room })) in
+    record { long = encode_long g a.next b.next; room = all.laid }
 
 pub slice_bounds-lay_heading-end : goal.slice_bounds-lay_heading-end
 slice_bounds-lay_heading-end c =
@@ -84,7 +84,7 @@ slice_bounds-lay_sections-end-3 c =
     sym c.takens-2-1.given
 
 pub shape_of-room : goal.shape_of-room
-shape_of-room c = ap length (returns c).1 ∙ lay_length _ _ _
+shape_of-room c = ap length (returns c).room ∙ lay_length _ _ _
 
 pub or_ranks-machines-requires : goal.or_ranks-machines-requires
 or_ranks-machines-requires c = (c.requires, le_refl 48)

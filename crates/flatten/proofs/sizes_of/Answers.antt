@@ -22,10 +22,12 @@ lay_rules-rules-requires c =
     (p.0, n.ands_are, n.actives_are, n.takens_are, n.first_is, omega arith)
 
 pub overflow_cast-result : goal.overflow_cast-result
-overflow_cast-result c = let p = c.requires in record { fits = omega (arith, or_few (tree p.0)) }
+overflow_cast-result c = let p = c.requires in
+    record { fits = omega (arith, or_few (tree p.0)) }
 
 pub overflow_cast-result-2 : goal.overflow_cast-result-2
-overflow_cast-result-2 c = let p = c.requires in record { fits = omega (arith, and_few (tree p.0)) }
+overflow_cast-result-2 c = let p = c.requires in
+    record { fits = omega (arith, and_few (tree p.0)) }
 
 pub overflow_cast-result-3 : goal.overflow_cast-result-3
 overflow_cast-result-3 c =

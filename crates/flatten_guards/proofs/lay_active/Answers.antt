@@ -16,7 +16,7 @@ returns-then-not-has c =
     let has = c.has in
     let told : asked v s.j ≡ false =
     sym (c.requires.2 s.j c.requires.1) ∙ sym has.ensures ∙ c.if-not-has.true in
-    (rw told penned_none, (omega arith, omega arith))
+    record { guards = rw told penned_none; few = (omega arith, omega arith) }
 
 pub put_active-end-requires : goal.put_active-end-requires
 put_active-end-requires c =
@@ -37,11 +37,9 @@ returns-then-spans c =
     sym (c.requires.2 s.j c.requires.1) ∙ sym has.ensures
     ∙ c.if-not-has.false in
     let counted = c.put_active-end.ensures in
-    let size = c.put_size.ensures in (
-      rw (told, c.if-spans.true)
-          (penned_span (active_literals v s.j) counted.0 size.0 size.1),
-      within_step s.pen 6 2 size.0 (omega arith) (omega (arith, counted.1)),
-    )
+    let size = c.put_size.ensures in
+    record { guards = rw (told, c.if-spans.true)
+          (penned_span (active_literals v s.j) counted.told size.pen size.room); few = within_step s.pen 6 2 size.pen (omega arith) (omega (arith, counted.few)) }
 
 pub put_active-requires : goal.put_active-requires
 put_active-requires c =
@@ -62,8 +60,6 @@ returns c =
     sym (c.requires.2 s.j c.requires.1) ∙ sym has.ensures
     ∙ c.if-not-has.false in
     let laid = c.put_active.ensures in
-    let end = c.behind.ensures in (
-      rw (told, c.if-spans.false)
-          (penned_literals (active_literals v s.j) laid.0 end),
-      within_step s.pen 6 2 end laid.1 (omega (arith, laid.1)),
-    )
+    let end = c.behind.ensures in
+    record { guards = rw (told, c.if-spans.false)
+          (penned_literals (active_literals v s.j) laid.told end); few = within_step s.pen 6 2 end laid.few (omega (arith, laid.few)) }

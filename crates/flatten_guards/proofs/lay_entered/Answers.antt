@@ -17,7 +17,7 @@ returns-then-not-has c =
     let has = c.has in
     let told : forks v s.k s.j ≡ false =
     sym (c.requires.3 s.j c.requires.4) ∙ sym has.ensures ∙ c.if-not-has.true in
-    (rw told penned_none, (omega arith, omega arith))
+    record { guards = rw told penned_none; few = (omega arith, omega arith) }
 
 pub put_entered-end-requires : goal.put_entered-end-requires
 put_entered-end-requires c =
@@ -48,11 +48,9 @@ returns-then-spans c =
     sym (c.requires.3 s.j c.requires.4) ∙ sym has.ensures
     ∙ c.if-not-has.false in
     let counted = c.put_entered-end.ensures in
-    let size = c.put_size.ensures in (
-      rw (told, c.if-spans.true)
-          (penned_span (entered_literals v s.k s.j) counted.0 size.0 size.1),
-      within_step s.pen 6 2 size.0 (omega arith) (omega (arith, counted.1)),
-    )
+    let size = c.put_size.ensures in
+    record { guards = rw (told, c.if-spans.true)
+          (penned_span (entered_literals v s.k s.j) counted.told size.pen size.room); few = within_step s.pen 6 2 size.pen (omega arith) (omega (arith, counted.few)) }
 
 pub put_entered-requires : goal.put_entered-requires
 put_entered-requires c =
@@ -85,8 +83,6 @@ returns c =
     sym (start.pre.3 s.j start.pre.4) ∙ sym has.ensures
     ∙ c.if-not-has.false in
     let laid = c.put_entered.ensures in
-    let end = c.behind.ensures in (
-      rw (told, c.if-spans.false)
-          (penned_literals (entered_literals v s.k s.j) laid.0 end),
-      within_step s.pen 6 2 end laid.1 (omega (arith, laid.1)),
-    )
+    let end = c.behind.ensures in
+    record { guards = rw (told, c.if-spans.false)
+          (penned_literals (entered_literals v s.k s.j) laid.told end); few = within_step s.pen 6 2 end laid.few (omega (arith, laid.few)) }

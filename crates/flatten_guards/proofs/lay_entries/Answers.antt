@@ -34,11 +34,11 @@ lay_forks-next-requires c =
     let so_far = c.loop-k.invariant.2 in (
       start.pre.0,
       omega arith,
-      e.0.top_is,
-      e.0.forks_are,
+      e.is.top_is,
+      e.is.forks_are,
       start.pre.1,
       start.pre.2,
-      e.1,
+      e.numbers,
       omega arith,
       omega arith,
     )
@@ -50,12 +50,12 @@ loop-k-preserved c =
     let l = c.loop-k in
     let e = c.entries_of-e.ensures in
     let one = c.lay_forks-next.ensures in
-    let next = e.0.next_is ∙ ap (λ (k : ℕ). entered_guard v k 0) (sym (add-one l.k)) in (
+    let next = e.is.next_is ∙ ap (λ (k : ℕ). entered_guard v k 0) (sym (add-one l.k)) in (
       omega arith,
       next,
-      (omega (arith, l.invariant.2.0, one.1.0), omega (arith, l.invariant.2.1, one.1.1)),
+      (omega (arith, l.invariant.2.0, one.few.0), omega (arith, l.invariant.2.1, one.few.1)),
       search rules,
-      penned_next (entered_guards_of v) l.k l.invariant.4 one.0,
+      penned_next (entered_guards_of v) l.k l.invariant.4 one.guards,
     )
 
 pub shape_of-room : goal.shape_of-room
@@ -70,4 +70,4 @@ returns c =
     let l = c.loop-k in
     let few = c.requires.0.counts.transitions.1 in
     let all : l.k ≡ v.transitions = omega arith in
-    (rw all at l.invariant.4, (omega (arith, l.invariant.2.0), omega (arith, l.invariant.2.1)))
+    record { guards = rw all at l.invariant.4; few = (omega (arith, l.invariant.2.0), omega (arith, l.invariant.2.1)) }

@@ -34,8 +34,8 @@ loop-j-preserved c =
     let l = c.loop-j in
     let one = c.lay_entered-next.ensures in (
       omega arith,
-      (omega (arith, l.invariant.1.0, one.1.0), omega (arith, l.invariant.1.1, one.1.1)),
-      penned_next (of_entered (view s.t.now) s.k) l.j l.invariant.2 one.0,
+      (omega (arith, l.invariant.1.0, one.few.0), omega (arith, l.invariant.1.1, one.few.1)),
+      penned_next (of_entered (view s.t.now) s.k) l.j l.invariant.2 one.guards,
     )
 
 pub shape_of-room : goal.shape_of-room
@@ -52,4 +52,4 @@ returns c =
     let l = c.loop-j in
     let few = c.requires.0.counts.states.1 in
     let all : l.j ≡ v.states = omega arith in
-    (rw all at l.invariant.2, (omega (arith, l.invariant.1.0), omega (arith, l.invariant.1.1)))
+    record { guards = rw all at l.invariant.2; few = (omega (arith, l.invariant.1.0), omega (arith, l.invariant.1.1)) }

@@ -40,5 +40,5 @@ returns c =
     let first = c.lay_actives-active.ensures in
     let second = c.lay_takens-taken.ensures in
     let third = c.lay_entries.ensures in
-    let laid = penned_both active (taken ++ entered) first.0 (penned_both taken entered second.0 third.0) in
-    (laid.pen, laid.laid)
+    let laid = penned_both active (taken ++ entered) first.guards (penned_both taken entered second.guards third.guards) in
+    record { pen = laid.pen; room = laid.laid }

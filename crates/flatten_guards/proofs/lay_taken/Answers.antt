@@ -13,7 +13,7 @@ returns-then-is_bare c =
     let s = c.args in
     let v = view s.t.now in
     let told : bare v s.k ≡ true = sym c.is_bare.ensures ∙ c.if-is_bare.true in
-    (rw told penned_none, (omega arith, omega arith))
+    record { guards = rw told penned_none; few = (omega arith, omega arith) }
 
 pub returns-then-spans : goal.returns-then-spans
 returns-then-spans c =
@@ -23,11 +23,9 @@ returns-then-spans c =
     sym c.is_bare.ensures
     ∙ c.if-is_bare.false in
     let counted = c.put_taken-end.ensures in
-    let size = c.put_size.ensures in (
-      rw (told, c.if-spans.true)
-          (penned_span (taken_literals v s.k) counted.0 size.0 size.1),
-      within_step s.pen 171 57 size.0 (omega arith) (omega (arith, counted.1)),
-    )
+    let size = c.put_size.ensures in
+    record { guards = rw (told, c.if-spans.true)
+          (penned_span (taken_literals v s.k) counted.told size.pen size.room); few = within_step s.pen 171 57 size.pen (omega arith) (omega (arith, counted.few)) }
 
 pub returns : goal.returns
 returns c =
@@ -37,11 +35,9 @@ returns c =
     sym c.is_bare.ensures
     ∙ c.if-is_bare.false in
     let laid = c.put_taken.ensures in
-    let end = c.behind.ensures in (
-      rw (told, c.if-spans.false)
-          (penned_literals (taken_literals v s.k) laid.0 end),
-      within_step s.pen 171 57 end laid.1 (omega (arith, laid.1)),
-    )
+    let end = c.behind.ensures in
+    record { guards = rw (told, c.if-spans.false)
+          (penned_literals (taken_literals v s.k) laid.told end); few = within_step s.pen 171 57 end laid.few (omega (arith, laid.few)) }
 
 pub put_taken-end-requires : goal.put_taken-end-requires
 put_taken-end-requires c =

@@ -23,8 +23,8 @@ loop-k-preserved c =
     let l = c.loop-k in
     let one = c.lay_taken-next.ensures in (
       omega arith,
-      (omega (arith, l.invariant.1.0, one.1.0), omega (arith, l.invariant.1.1, one.1.1)),
-      penned_next (of_taken (view s.t.now)) l.k l.invariant.2 one.0,
+      (omega (arith, l.invariant.1.0, one.few.0), omega (arith, l.invariant.1.1, one.few.1)),
+      penned_next (of_taken (view s.t.now)) l.k l.invariant.2 one.guards,
     )
 
 pub shape_of-room : goal.shape_of-room
@@ -40,4 +40,4 @@ returns c =
     let l = c.loop-k in
     let few = c.requires.0.counts.transitions.1 in
     let all : l.k ≡ v.transitions = omega arith in
-    (rw all at l.invariant.2, (omega (arith, l.invariant.1.0), omega (arith, l.invariant.1.1)))
+    record { guards = rw all at l.invariant.2; few = (omega (arith, l.invariant.1.0), omega (arith, l.invariant.1.1)) }

@@ -8,4 +8,4 @@ pub returns : goal.returns
 returns c =
     let s = c.args in
     let put = c.put_span-next.ensures in
-    (ap (λ (at : ℕ). stepped s.pen at (s.end / 3)) put.0, put.1)
+    record { pen = ap (λ (at : ℕ). stepped s.pen at (s.end / 3)) put.next; room = put.room }

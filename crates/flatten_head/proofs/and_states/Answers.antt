@@ -11,4 +11,4 @@ pub returns : goal.returns
 returns c =
     let most = c.requires.counts.states.1 in
     let all = all_states (view c.args.t.now) in
-    (omega arith, omega arith)
+    record { is = omega arith; few = omega arith }

@@ -48,7 +48,7 @@ returns c =
     let n = c.number-n.ensures.is in
     let e : l.k ≡ v.transitions = omega arith in
     let most = c.requires.counts.transitions.1 in
-    (l.invariant.1 ∙ ap (sum_below (λ i. (v.asks i).count)) e, omega arith)
+    record { is = l.invariant.1 ∙ ap (sum_below (λ i. (v.asks i).count)) e; few = omega arith }
 
 pub loop-k-init : goal.loop-k-init
 loop-k-init c = (omega arith, refl, omega arith)

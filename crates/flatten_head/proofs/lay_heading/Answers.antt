@@ -21,4 +21,4 @@ returns c =
     let a = c.lay_initials-states.ensures in
     let b = c.lay_owners.ensures in
     let all = laid_both (header_end g c.args.room.now c.lay_header.ensures) (laid_both a b) in
-    (omega (arith, all.place), all.laid)
+    record { next = omega (arith, all.place); room = all.laid }

@@ -8,6 +8,6 @@ returns c =
     let first = c.number-first in
     let count = c.number-count in
     let laid =
-    items_laid s.t.now s.at first.result count.result first.ensures.0 count.ensures.0
+    items_laid s.t.now s.at first.result count.result first.ensures.is count.ensures.is
     c.put_words.ensures.next c.put_words.ensures.room in
-    (laid.place, laid.laid)
+    record { next = laid.place; room = laid.laid }

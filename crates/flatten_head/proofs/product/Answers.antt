@@ -9,4 +9,5 @@ pub overflow_mul-result : goal.overflow_mul-result
 overflow_mul-result c = let most : c.args.k * c.args.a ≤ 48 * 48 = mul-le-mul c.requires.0 c.requires.1 in omega arith
 
 pub returns : goal.returns
-returns c = let most : c.args.k * c.args.a ≤ 48 * 48 = mul-le-mul c.requires.0 c.requires.1 in (refl, omega arith)
+returns c = let most : c.args.k * c.args.a ≤ 48 * 48 = mul-le-mul c.requires.0 c.requires.1 in
+    record { is = refl; few = omega arith }

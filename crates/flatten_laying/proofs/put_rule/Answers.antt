@@ -18,14 +18,15 @@ returns c =
     let three = lay_more s.at room (s.trigger ∷ g.first ∷ []) g.second two c.put-3.ensures in
     let four = lay_more s.at room (s.trigger ∷ g.first ∷ g.second ∷ []) i.first three c.put-4.ensures in
     let five =
-    lay_more s.at room (s.trigger ∷ g.first ∷ g.second ∷ i.first ∷ []) i.count four c.put-5.ensures in (
-      refl,
-      lay_more s.at room (s.trigger ∷ g.first ∷ g.second ∷ i.first ∷ i.count ∷ []) s.target five
-          c.put-6.ensures,
-    )
+    lay_more s.at room (s.trigger ∷ g.first ∷ g.second ∷ i.first ∷ []) i.count four c.put-5.ensures in
+    record {
+      next = refl;
+      room = lay_more s.at room (s.trigger ∷ g.first ∷ g.second ∷ i.first ∷ i.count ∷ []) s.target five
+          c.put-6.ensures;
+    }
 
 pub shape_of-room : goal.shape_of-room
-shape_of-room c = ap length (returns c).1 ∙ lay_length _ _ _
+shape_of-room c = ap length (returns c).room ∙ lay_length _ _ _
 
 pub overflow_add-at-4 : goal.overflow_add-at-4
 overflow_add-at-4 c =

@@ -12,10 +12,10 @@ unfolding lay
 returns c =
     let s = c.args in
     let room = s.room.now in
-    (refl, lay_more s.at room (s.first ∷ []) s.count c.put.ensures c.put-2.ensures)
+    record { next = refl; room = lay_more s.at room (s.first ∷ []) s.count c.put.ensures c.put-2.ensures }
 
 pub shape_of-room : goal.shape_of-room
-shape_of-room c = ap length (returns c).1 ∙ lay_length _ _ _
+shape_of-room c = ap length (returns c).room ∙ lay_length _ _ _
 
 pub overflow_add-at : goal.overflow_add-at
 overflow_add-at c = place_fits 1 c.requires (lit< tt)

@@ -28,4 +28,4 @@ returns c =
     let l = c.loop-i in
     let f : ℕ → ℕ = λ k. get_or s.t.now k 0 in
     let end = lay_last f s.at s.from l.i s.count l.room c.loop-i-test.false in
-    (refl, sym (l.invariant.2 ∙ end))
+    record { next = refl; room = sym (l.invariant.2 ∙ end) }

@@ -18,7 +18,7 @@ returns-then-o-eq0 c =
     let v = view c.args.t.now in
     let a = c.word.ensures ∙ c.requires.3 j c.requires.1 in
     let top = sym c.state_word-o.ensures.is ∙ c.if-o-eq0.true in
-    (active_top v j a top c.put_current-next.ensures.told, omega arith)
+    record { told = active_top v j a top c.put_current-next.ensures.told; few = omega arith }
 
 pub state_word-requires : goal.state_word-requires
 state_word-requires c =
@@ -41,7 +41,7 @@ returns c =
     let grandparent = c.state_word.ensures.is ∙ ap v.parent o in
     let g = c.word-2.ensures
     ∙ ap (λ (i : ℕ). get_or c.args.actives.now i 0) grandparent ∙ named in
-    (active_inner v j a inner g current.0 c.put_holds.ensures.told, omega arith)
+    record { told = active_inner v j a inner g current.0 c.put_holds.ensures.told; few = omega arith }
 
 pub state_word-o-requires : goal.state_word-o-requires
 state_word-o-requires c = search chart_needs

@@ -54,7 +54,7 @@ loop-i-preserved c =
     let l = c.loop-i in
     let put = c.put_flat-next.ensures in
     let first = c.transition_word-first.result in
-    let one = rw c.literal_at.ensures at put.0 in
+    let one = rw c.literal_at.ensures at put.told in
     (omega arith, omega arith, asked_next v (literal v) first l.i l.invariant.2 one)
 
 pub shape_of-room : goal.shape_of-room
@@ -69,11 +69,9 @@ returns c =
     let count = c.transition_word-count.ensures.is ∙ count_word c.args.t.now k in
     let few = (c.requires.0.transition_spans k c.requires.1).few_literals in
     let first = c.transition_word-first.ensures.is in
-    let all : l.i ≡ (v.asks k).count = omega arith in (
-      subst (λ (ls : List FlatLiteral). Told c.args.at ls c.args.room.now l.next l.room)
-          (ap₂ (flats v) first all) l.invariant.2,
-      omega arith,
-    )
+    let all : l.i ≡ (v.asks k).count = omega arith in
+    record { told = subst (λ (ls : List FlatLiteral). Told c.args.at ls c.args.room.now l.next l.room)
+          (ap₂ (flats v) first all) l.invariant.2; few = omega arith }
 
 pub transition_word-first-requires : goal.transition_word-first-requires
 transition_word-first-requires c = search chart_needs

@@ -8,7 +8,7 @@ use Rattle.flatten_literals.proofs.put_blocker.Goals as goal
 pub returns-then-not-does_block : goal.returns-then-not-does_block
 returns-then-not-does_block c =
     let asked = c.does_block in
-    (rw (← asked.ensures, c.if-not-does_block.true) laid_none, omega arith)
+    record { told = rw (← asked.ensures, c.if-not-does_block.true) laid_none; few = omega arith }
 
 pub returns : goal.returns
 returns c =
@@ -16,4 +16,4 @@ returns c =
     let asked = c.does_block in
     let g = c.word.ensures ∙ c.requires.3 s c.requires.1 in
     let blocks = c.if-not-does_block.false in
-    (rw (← asked.ensures, blocks, ← g) c.put_fails.ensures.told, omega arith)
+    record { told = rw (← asked.ensures, blocks, ← g) c.put_fails.ensures.told; few = omega arith }

@@ -21,8 +21,8 @@ loop-s-preserved c =
     let l = c.loop-s in
     let put = c.put_blocker-next.ensures in (
       omega arith,
-      omega (arith, put.1),
-      rows_next literal_row (blocker (view c.args.t.now) c.args.k) l.s l.invariant.2 put.0,
+      omega (arith, put.few),
+      rows_next literal_row (blocker (view c.args.t.now) c.args.k) l.s l.invariant.2 put.told,
     )
 
 pub shape_of-room : goal.shape_of-room
@@ -34,4 +34,4 @@ returns c =
     let k = c.args.k in
     let all : l.s ≡ k = omega arith in
     let few = c.requires.0.counts.transitions.1 in
-    (rw all at l.invariant.2, omega (arith, c.requires.1))
+    record { told = rw all at l.invariant.2; few = omega (arith, c.requires.1) }

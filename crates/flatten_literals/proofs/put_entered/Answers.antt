@@ -27,7 +27,7 @@ returns-then-up-taken c =
     above_read (tree start.pre.0) s.k s.j s.refers.now start.pre.2 start.pre.3 start.pre.7
     start.pre.4 taken c.above_number-up.ensures.is in
     let sure = c.if-up-taken.true ∙ taken in
-    (entered_sure v s.k s.j a up sure c.put_current.ensures.told, omega arith)
+    record { told = entered_sure v s.k s.j a up sure c.put_current.ensures.told; few = omega arith }
 
 pub returns : goal.returns
 returns c =
@@ -46,4 +46,4 @@ returns c =
     λ e. c.if-up-taken.false (e ∙ sym taken) in
     let holds = c.put_holds-next.ensures in
     let current = c.put_current-2.ensures in
-    (entered_below v s.k s.j a up below holds.0 current.0, omega arith)
+    record { told = entered_below v s.k s.j a up below holds.told current.told; few = omega arith }

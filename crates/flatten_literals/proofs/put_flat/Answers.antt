@@ -22,7 +22,7 @@ returns-in-Active c =
     let named : ltb a v.states ≡ true = and_l (ltb a v.states) _ (rw is at c.requires.1) in
     let cell = ap (λ (i : ℕ). get_or c.args.actives.now i 0) c.wide.ensures.is in
     let g = c.word.ensures ∙ cell ∙ c.requires.0 a (ltb_lt a v.states named) in
-    (rw (is, ← g) c.put_holds.ensures.told, omega arith)
+    record { told = rw (is, ← g) c.put_holds.ensures.told; few = omega arith }
 
 pub returns-in-NotActive : goal.returns-in-NotActive
 unfolding flat_literal
@@ -33,20 +33,16 @@ returns-in-NotActive c =
     let named : ltb a v.states ≡ true = and_l (ltb a v.states) _ (rw is at c.requires.1) in
     let cell = ap (λ (i : ℕ). get_or c.args.actives.now i 0) c.wide-in-NotActive.ensures.is in
     let g = c.word-in-NotActive.ensures ∙ cell ∙ c.requires.0 a (ltb_lt a v.states named) in
-    (rw (is, ← g) c.put_fails.ensures.told, omega arith)
+    record { told = rw (is, ← g) c.put_fails.ensures.told; few = omega arith }
 
 pub returns-in-AtLeast : goal.returns-in-AtLeast
 unfolding flat_literal literal_triple
 returns-in-AtLeast c =
-    let put = c.put_triple.ensures in (
-      rw c.in-AtLeast.is (record { place = put.0; laid = put.1 }),
-      search rules,
-    )
+    let put = c.put_triple.ensures in
+    record { told = rw c.in-AtLeast.is (record { place = put.next; laid = put.room }); few = search rules }
 
 pub returns-in-Less : goal.returns-in-Less
 unfolding flat_literal literal_triple
 returns-in-Less c =
-    let put = c.put_triple-in-Less.ensures in (
-      rw c.in-Less.is (record { place = put.0; laid = put.1 }),
-      search rules,
-    )
+    let put = c.put_triple-in-Less.ensures in
+    record { told = rw c.in-Less.is (record { place = put.next; laid = put.room }); few = search rules }

@@ -7,4 +7,4 @@ pub returns : goal.returns
 unfolding literal_triple
 returns c =
     let put = c.put_triple.ensures in
-    (record { place = put.0; laid = put.1 }, search rules)
+    record { told = record { place = put.next; laid = put.room }; few = search rules }

@@ -21,7 +21,7 @@ returns c =
     let holds = c.put_holds-asked.ensures in
     let asked = c.put_asked-next.ensures in
     let free = c.put_blockers.ensures in
-    (taken_all v k g holds.0 asked.0 free.0, omega arith)
+    record { told = taken_all v k g holds.told asked.told free.told; few = omega arith }
 
 pub put_asked-next-requires : goal.put_asked-next-requires
 put_asked-next-requires c =

@@ -18,7 +18,7 @@ returns-then-o-top c =
     let o = (view s.t.now).parent s.j in
     let up = c.state_word-o.ensures.is in
     let in_scope_lem : eqb o s.top ≡ true = eqb_yes (sym up ∙ c.if-o-top.true) in
-    (rw in_scope_lem refl, omega arith)
+    record { is = rw in_scope_lem refl; small = omega arith }
 
 pub returns-then-o-eq0 : goal.returns-then-o-eq0
 unfolding above_in
@@ -28,7 +28,7 @@ returns-then-o-eq0 c =
     let up = c.state_word-o.ensures.is in
     let below : eqb o s.top ≡ false = eqb_no (λ e. c.if-o-top.false (up ∙ e)) in
     let at_root : eqb o 0 ≡ true = eqb_yes (sym up ∙ c.if-o-eq0.true) in
-    (rw (below, at_root) refl, omega arith)
+    record { is = rw (below, at_root) refl; small = omega arith }
 
 pub returns : goal.returns
 unfolding above_in
@@ -40,7 +40,7 @@ returns c =
     let inner : eqb o 0 ≡ false = eqb_no (λ e. c.if-o-eq0.false (up ∙ e)) in
     let grandparent = c.state_word.ensures.is ∙ ap (view s.t.now).parent up in
     let cell = c.number.ensures.is ∙ ap (λ (i : ℕ). get_or s.refers.now i 0) grandparent in
-    (rw (below, inner) cell, c.number.ensures.small)
+    record { is = rw (below, inner) cell; small = c.number.ensures.small }
 
 pub state_word-o-requires : goal.state_word-o-requires
 state_word-o-requires c = search chart_needs

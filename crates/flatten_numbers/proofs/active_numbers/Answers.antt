@@ -14,4 +14,4 @@ returns c =
     let v = view s.t.now in
     let same = active_same v s.asked c.requires.1 in
     let made = c.number_states.ensures in
-    (made.0 ∙ same v.states (le_refl v.states), (made.1.0, λ j h. made.1.1 j h ∙ same j (omega arith)))
+    record { is = made.is ∙ same v.states (le_refl v.states); few = made.few.0; numbers = λ j h. made.few.1 j h ∙ same j (omega arith) }

@@ -58,10 +58,8 @@ returns c =
     let n = c.number-n.ensures.is in
     let e : l.j ≡ v.states = omega arith in
     let few = c.requires.0.counts.states.1 in
-    let upto = l.invariant.1 in (
-      upto.counts ∙ ap (rank numbered) e,
-      (omega (arith, upto.counts, rank_most numbered l.j), λ i h. upto.made i (omega arith)),
-    )
+    let upto = l.invariant.1 in
+    record { is = upto.counts ∙ ap (rank numbered) e; few = omega (arith, upto.counts, rank_most numbered l.j); numbers = λ i h. upto.made i (omega arith) }
 
 pub is_numbered-requires : goal.is_numbered-requires
 is_numbered-requires c = search chart_needs

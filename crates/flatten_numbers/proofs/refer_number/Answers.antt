@@ -14,14 +14,14 @@ returns-then-not-is_and c =
     let s = c.args in
     let out : is_and (view s.t.now) s.j ≡ false =
     sym c.is_and.ensures ∙ c.if-not-is_and.true in
-    (rw out refl, omega arith)
+    record { is = rw out refl; small = omega arith }
 
 pub returns-then-fork : goal.returns-then-fork
 returns-then-fork c =
     let s = c.args in
     let is : is_and (view s.t.now) s.j ≡ true =
     sym c.is_and.ensures ∙ c.if-not-is_and.false in
-    (rw (is, c.if-fork.true) refl, omega arith)
+    record { is = rw (is, c.if-fork.true) refl; small = omega arith }
 
 pub above_number-requires : goal.above_number-requires
 above_number-requires c =
@@ -35,7 +35,7 @@ returns c =
     let s = c.args in
     let is : is_and (view s.t.now) s.j ≡ true =
     sym c.is_and.ensures ∙ c.if-not-is_and.false in
-    (rw (is, c.if-fork.false) c.above_number.ensures.is, c.above_number.ensures.small)
+    record { is = rw (is, c.if-fork.false) c.above_number.ensures.is; small = c.above_number.ensures.small }
 
 pub is_and-requires : goal.is_and-requires
 is_and-requires c = search chart_needs

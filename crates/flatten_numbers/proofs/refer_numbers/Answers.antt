@@ -67,4 +67,4 @@ returns c =
     let n = c.number-n.ensures.is in
     let e : l.j ≡ v.states = omega arith in
     let upto = l.invariant.1 in
-    (upto.counts ∙ ap (entered_guard v s.k) e ∙ sym (entered_row v s.k), λ i h. upto.made i (omega arith))
+    record { is = upto.counts ∙ ap (entered_guard v s.k) e ∙ sym (entered_row v s.k); numbers = λ i h. upto.made i (omega arith) }

@@ -12,7 +12,7 @@ returns-then-bare c =
     let source = ap (λ (i : ℕ). get_or s.actives.now i 0) c.transition_word.ensures.is in
     let in_chart = (c.requires.0.sources s.k c.requires.1).source_in in
     let number = c.requires.2 ((view s.t.now).source s.k) in_chart in
-    (rw c.if-bare.true (c.number.ensures.is ∙ source ∙ number), c.number.ensures.small)
+    record { is = rw c.if-bare.true (c.number.ensures.is ∙ source ∙ number); small = c.number.ensures.small }
 
 pub transition_word-requires : goal.transition_word-requires
 transition_word-requires c = search chart_needs

@@ -62,7 +62,5 @@ returns c =
     let e : l.k ≡ v.transitions = omega arith in
     let counts = c.requires.0.counts in
     let upto = l.invariant.1 in
-    let most = taken_most v l.k counts.states.1 in (
-      upto.counts ∙ ap (taken_next v) e ∙ taken_last v,
-      (omega (arith, upto.counts, counts.transitions.1), λ i h. upto.made i (omega arith)),
-    )
+    let most = taken_most v l.k counts.states.1 in
+    record { is = upto.counts ∙ ap (taken_next v) e ∙ taken_last v; few = omega (arith, upto.counts, counts.transitions.1); numbers = λ i h. upto.made i (omega arith) }

@@ -22,8 +22,8 @@ loop-j-preserved c =
     let l = c.loop-j in
     let one = c.lay_entry-next.ensures in (
       omega arith,
-      omega (arith, one.1),
-      rows_next rule_row (of_entry (view s.t.now) s.k) l.j l.invariant.2 one.0,
+      omega (arith, one.few),
+      rows_next rule_row (of_entry (view s.t.now) s.k) l.j l.invariant.2 one.rules,
     )
 
 pub shape_of-room : goal.shape_of-room
@@ -35,4 +35,4 @@ returns c =
     let l = c.loop-j in
     let few = c.requires.0.counts.states.1 in
     let all : l.j ≡ v.states = omega arith in
-    (rw all at l.invariant.2, omega arith)
+    record { rules = rw all at l.invariant.2; few = omega arith }

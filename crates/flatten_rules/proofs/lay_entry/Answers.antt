@@ -21,7 +21,7 @@ returns-then-not-has c =
     let has = c.has in
     let told : comes (view s.t.now) s.k s.j ≡ false =
     sym (c.requires.2 s.j c.requires.3) ∙ sym has.ensures ∙ c.if-not-has.true in
-    (rw told laid_none, omega arith)
+    record { rules = rw told laid_none; few = omega arith }
 
 -- what a rule enters is an and-state, and so has a parent
 pub target_of-requires : goal.target_of-requires
@@ -47,15 +47,15 @@ returns c =
     let refer = c.requires.6 s.j c.requires.3 in
     let from = c.state_at.ensures.is in
     let items = c.items_at-items.ensures in
-    let first = items.0 ∙ ap (λ (n : ℕ). get_or s.t.now (n + 5) 0) from in
-    let count = items.1 ∙ ap (λ (n : ℕ). get_or s.t.now (n + 5 + 1) 0) from in
+    let first = items.first ∙ ap (λ (n : ℕ). get_or s.t.now (n + 5) 0) from in
+    let count = items.count ∙ ap (λ (n : ℕ). get_or s.t.now (n + 5 + 1) 0) from in
     let row =
     same_row c.trigger_of.ensures
     (c.word.ensures ∙ taken)
     (c.word-2.ensures ∙ refer) first count
     c.target_of.ensures in
     let put = c.put_rule.ensures in
-    (rw told (one_rule (entry_rule v s.k s.j) row put.0 put.1), omega arith)
+    record { rules = rw told (one_rule (entry_rule v s.k s.j) row put.next put.room); few = omega arith }
 
 pub state_at-requires : goal.state_at-requires
 state_at-requires c = search chart_needs

@@ -14,7 +14,7 @@ use Rattle.flatten_rules.proofs.lay_exit.Goals as goal
 pub returns-then-not-can_quit : goal.returns-then-not-can_quit
 returns-then-not-can_quit c =
     let asked = c.can_quit in
-    (rw (← asked.ensures, c.if-not-can_quit.true) laid_none, omega arith)
+    record { rules = rw (← asked.ensures, c.if-not-can_quit.true) laid_none; few = omega arith }
 
 pub returns : goal.returns
 unfolding exit_rule
@@ -26,12 +26,12 @@ returns c =
     let active = c.word-2.ensures ∙ c.requires.4 s.j c.requires.2 in
     let from = c.state_at.ensures.is in
     let items = c.items_at-items.ensures in
-    let first = items.0 ∙ ap (λ (n : ℕ). get_or s.t.now (n + 3) 0) from in
-    let count = items.1 ∙ ap (λ (n : ℕ). get_or s.t.now (n + 3 + 1) 0) from in
+    let first = items.first ∙ ap (λ (n : ℕ). get_or s.t.now (n + 3) 0) from in
+    let count = items.count ∙ ap (λ (n : ℕ). get_or s.t.now (n + 3 + 1) 0) from in
     let row = same_row c.trigger_of.ensures taken active first count refl in
     let put = c.put_rule.ensures in
-    let rule = one_rule (exit_rule v s.k s.j) row put.0 put.1 in
-    (rw (← asked.ensures, c.if-not-can_quit.false) rule, omega arith)
+    let rule = one_rule (exit_rule v s.k s.j) row put.next put.room in
+    record { rules = rw (← asked.ensures, c.if-not-can_quit.false) rule; few = omega arith }
 
 pub state_at-requires : goal.state_at-requires
 state_at-requires c = search chart_needs

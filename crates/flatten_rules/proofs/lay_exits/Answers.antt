@@ -28,10 +28,10 @@ loop-j-preserved c =
     let l = c.loop-j in
     let one = c.lay_exit-next.ensures in (
       omega arith,
-      omega (arith, one.1),
-      laid_length one.0 ∙ l.invariant.2,
+      omega (arith, one.few),
+      laid_length one.rules ∙ l.invariant.2,
       falling_next (of_exit v s.k) v.states s.at s.room.now l.j
-          c.loop-j-test.true l.invariant.3 one.0,
+          c.loop-j-test.true l.invariant.3 one.rules,
     )
 
 pub shape_of-room : goal.shape_of-room
@@ -42,7 +42,5 @@ returns c =
     let s = c.args in
     let v = view s.t.now in
     let l = c.loop-j in
-    let few = c.requires.0.counts.states.1 in (
-      falling_end (of_exit v s.k) v.states s.at s.room.now l.j c.loop-j-test.false l.invariant.3,
-      omega arith,
-    )
+    let few = c.requires.0.counts.states.1 in
+    record { rules = falling_end (of_exit v s.k) v.states s.at s.room.now l.j c.loop-j-test.false l.invariant.3; few = omega arith }

@@ -17,7 +17,7 @@ returns-then-items-eq0 c =
     let from = c.transition_at.ensures.is in
     let count = c.items_at-items.ensures.count ∙ ap (λ (n : ℕ). get_or s.t.now (n + 4 + 1) 0) from in
     let none = sym count ∙ c.if-items-eq0.true in
-    (rw (eqb_yes none) laid_none, omega arith)
+    record { rules = rw (eqb_yes none) laid_none; few = omega arith }
 
 pub returns : goal.returns
 unfolding own_rule
@@ -27,14 +27,14 @@ returns c =
     let number = c.requires.2 s.k c.requires.1 in
     let from = c.transition_at.ensures.is in
     let items = c.items_at-items.ensures in
-    let first = items.0 ∙ ap (λ (n : ℕ). get_or s.t.now (n + 4) 0) from in
-    let count = items.1 ∙ ap (λ (n : ℕ). get_or s.t.now (n + 4 + 1) 0) from in
+    let first = items.first ∙ ap (λ (n : ℕ). get_or s.t.now (n + 4) 0) from in
+    let count = items.count ∙ ap (λ (n : ℕ). get_or s.t.now (n + 4 + 1) 0) from in
     let some = eqb_no {m = (v.does s.k).count} {n = 0} (λ e. c.if-items-eq0.false (count ∙ e)) in
     let taken = c.word.ensures ∙ number in
     let again = c.word-2.ensures ∙ number in
     let row = same_row c.trigger_of.ensures taken again first count refl in
     let put = c.put_rule.ensures in
-    (rw some (one_rule (own_rule v s.k) row put.0 put.1), omega arith)
+    record { rules = rw some (one_rule (own_rule v s.k) row put.next put.room); few = omega arith }
 
 pub transition_at-requires : goal.transition_at-requires
 transition_at-requires c = search chart_needs

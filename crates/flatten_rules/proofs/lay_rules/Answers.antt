@@ -26,12 +26,12 @@ lay_rules_of-next-requires c =
     let so_far = c.loop-k.invariant.2 in (
       c.requires.0,
       omega arith,
-      e.0.top_is,
-      e.0.comes_are,
+      e.is.top_is,
+      e.is.comes_are,
       c.requires.1,
       c.requires.2,
       c.requires.3,
-      e.1,
+      e.numbers,
       omega arith,
     )
 
@@ -42,12 +42,12 @@ loop-k-preserved c =
     let l = c.loop-k in
     let e = c.entries_of-e.ensures in
     let one = c.lay_rules_of-next.ensures in
-    let next = e.0.next_is ∙ ap (λ (k : ℕ). entered_guard v k 0) (sym (add-one l.k)) in (
+    let next = e.is.next_is ∙ ap (λ (k : ℕ). entered_guard v k 0) (sym (add-one l.k)) in (
       omega arith,
       next,
-      omega (arith, l.invariant.2, one.1),
+      omega (arith, l.invariant.2, one.few),
       search rules,
-      rows_next rule_row (rules_of v) l.k l.invariant.4 one.0,
+      rows_next rule_row (rules_of v) l.k l.invariant.4 one.rules,
     )
 
 pub shape_of-room : goal.shape_of-room
@@ -60,4 +60,4 @@ returns c =
     let l = c.loop-k in
     let all : l.k ≡ v.transitions = omega arith in
     let laid = rw all at l.invariant.4 in
-    (laid.place, laid.laid)
+    record { next = laid.place; room = laid.laid }

@@ -34,5 +34,5 @@ returns c =
     let entries = c.lay_entries.ensures in
     let left = join_down (of_exit v s.k) v.states in
     let entered = join_up (of_entry v s.k) v.states in
-    let rest = rows_both rule_row (of_own v s.k) entered own.0 entries.0 in
-    (rows_both rule_row left (of_own v s.k ++ entered) exits.0 rest, omega (arith, exits.1, own.1, entries.1))
+    let rest = rows_both rule_row (of_own v s.k) entered own.rules entries.rules in
+    record { rules = rows_both rule_row left (of_own v s.k ++ entered) exits.rules rest; few = omega (arith, exits.few, own.few, entries.few) }

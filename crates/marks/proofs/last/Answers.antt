@@ -35,7 +35,8 @@ loop-n-preserved c =
 
 pub returns : goal.returns
 returns c =
-    let l = c.loop-n in record {
+    let l = c.loop-n in
+    record {
       up_to = search rules;
       skipped = λ j g h. l.invariant.1 j (omega (arith, c.loop-n-test.false)) h;
       member = λ j e. absurd (omega arith);

@@ -11,4 +11,4 @@ returns c =
     let args = c.args in
     let free = c.room_at-free.result in
     let before : free ≡ free + 1 - 1 = omega arith in
-    (search rules, ap (λ (k : ℕ). set args.text.now k args.byte) before)
+    record { result_nonzero = search rules; text_after = ap (λ (k : ℕ). set args.text.now k args.byte) before }

@@ -5,4 +5,4 @@ use Rattle.states.proofs.except.Goals as goal
 
 pub returns : goal.returns
 unfolding cells
-returns c = cell_except _ _ j
+returns c = λ j. cell_except _ _ j

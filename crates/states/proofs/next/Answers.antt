@@ -9,10 +9,12 @@ use Rattle.states.proofs.Counts.{next_is}
 use Rattle.states.proofs.next.Goals as goal
 
 pub overflow_cast-r : goal.overflow_cast-r
-overflow_cast-r c = let s = c.args in record { fits = omega (arith, trailing_le 64 (s.s.bits / 2 ^ s.k)) }
+overflow_cast-r c = let s = c.args in
+    record { fits = omega (arith, trailing_le 64 (s.s.bits / 2 ^ s.k)) }
 
 pub overflow_add-r : goal.overflow_add-r
-overflow_add-r c = let s = c.args in record { fits = omega (arith, trailing_le 64 (s.s.bits / 2 ^ s.k), c.requires) }
+overflow_add-r c = let s = c.args in
+    record { fits = omega (arith, trailing_le 64 (s.s.bits / 2 ^ s.k), c.requires) }
 
 pub returns-then-r-n : goal.returns-then-r-n
 unfolding cells

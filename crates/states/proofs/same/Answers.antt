@@ -12,4 +12,4 @@ pub returns : goal.returns
 unfolding cells
 returns c =
     let s = c.args in
-    ((λ e. ap (λ (m : ℕ). many (bit_at m) 0 48) (eqb_eq s.a.bits s.b.bits e)), λ e. eqb_yes (ap (λ (x : StateSet). x.bits) e))
+    record { alike = (λ e. ap (λ (m : ℕ). many (bit_at m) 0 48) (eqb_eq s.a.bits s.b.bits e)); other = λ e. eqb_yes (ap (λ (x : StateSet). x.bits) e) }
