@@ -126,4 +126,5 @@ module _ (rest : List ℕ → List ℕ) (state o : List ℕ) (pairs k : ℕ) whe
       → stopped? g.does.n ≡ true → (outs : List ℕ) → (k ≡ first → outs ≡ o) → Ends rest state o g.does.n state outs meant
   stop_ends (untried z) (refused {r} {g} s) h outs back =
       halted (record { halts = s.halts; why = s.why; state_stays = refl; outs_stay = back z })
+  stop_ends (tried _ z) (refused {r} s) h outs back = elim z [ ]
   stop_ends b (done {s} {g} d) h outs back = clash (stopped? g.does.n) h d.fine
