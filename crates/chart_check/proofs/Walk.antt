@@ -1,19 +1,18 @@
 -- A walk asks one test after the other, as long as they hold. Assumes nothing.
-use borrow.Author.Tests.{not-true, not-false}
 use Prim.Native.Nat.{ℕ, ◌+◌, ◌<◌, ◌≤◌}
 use mathlib.Core.Path.{◌≡◌, refl, sym, ap, ◌∙◌}
-use mathlib.Core.Bool.{Bool, true, false, not}
+use mathlib.Core.Bool.{Bool, true, false}
 use native.Mathlib.Omega.{arith}
 use Rattle.words.specs.Loops.{all_below}
 use Rattle.words.proofs.Loops.{all_below_next, all_below_no}
 
--- a test was asked, and the code goes by `!`
+-- a test was asked, and the code goes by its answer
 module _ {x a : Bool} (told : x ≡ a) where
-  pub fails : not x ≡ true → a ≡ false
-  fails e = sym told ∙ not-true x e
+  pub fails : x ≡ false → a ≡ false
+  fails e = sym told ∙ e
 
-  pub holds : not x ≡ false → a ≡ true
-  holds e = sym told ∙ not-false x e
+  pub holds : x ≡ true → a ≡ true
+  holds e = sym told ∙ e
 
 -- the tests of the numbers below n, of which those below i were asked and hold
 abbrev pub Passed : (ℕ → Bool) → ℕ → ℕ → Type 0
@@ -24,10 +23,10 @@ module _ (p : ℕ → Bool) where
   starts n = (omega arith, refl)
 
   module _ {n i : ℕ} where
-    pub goes_on : {x : Bool} → Passed p n i → i < n → x ≡ p i → not x ≡ false → Passed p n (i + 1)
+    pub goes_on : {x : Bool} → Passed p n i → i < n → x ≡ p i → x ≡ true → Passed p n (i + 1)
     goes_on h l told e = (omega arith, all_below_next p i h.1 (holds told e))
 
-    pub stops : {count : ℕ} {x : Bool} → n ≡ count → i < n → x ≡ p i → not x ≡ true → false ≡ all_below p count
+    pub stops : {count : ℕ} {x : Bool} → n ≡ count → i < n → x ≡ p i → x ≡ false → false ≡ all_below p count
     stops {count} m l told e = sym (all_below_no p count i (omega arith) (fails told e))
 
     pub ends : {count : ℕ} → n ≡ count → Passed p n i → n ≤ i → true ≡ all_below p count

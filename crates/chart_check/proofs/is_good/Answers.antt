@@ -23,7 +23,7 @@ are_items_good-requires c =
     readable_by c.args.t.now (holds c.is_laid_out.ensures c.if-not-is_laid_out.false)
 
 pub returns : goal.returns
-returns c =
+returns c = λ e.
     accepted_by c.args.t.now
     (holds c.is_laid_out.ensures c.if-not-is_laid_out.false)
     (holds c.are_states_good.ensures c.if-not-are_states_good.false)
@@ -32,13 +32,13 @@ returns c =
     (sym c.are_items_good.ensures ∙ e)
 
 pub returns-then-not-is_laid_out : goal.returns-then-not-is_laid_out
-returns-then-not-is_laid_out c = clash false e refl
+returns-then-not-is_laid_out c = λ e. clash false e refl
 
 pub returns-then-not-are_states_good : goal.returns-then-not-are_states_good
-returns-then-not-are_states_good c = clash false e refl
+returns-then-not-are_states_good c = λ e. clash false e refl
 
 pub returns-then-not-are_transitions_good : goal.returns-then-not-are_transitions_good
-returns-then-not-are_transitions_good c = clash false e refl
+returns-then-not-are_transitions_good c = λ e. clash false e refl
 
 pub returns-then-not-are_literals_good : goal.returns-then-not-are_literals_good
-returns-then-not-are_literals_good c = clash false e refl
+returns-then-not-are_literals_good c = λ e. clash false e refl

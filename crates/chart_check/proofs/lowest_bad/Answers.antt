@@ -25,8 +25,11 @@ returns-then-not-keeps c =
     let s = c.args in
     let l = c.loop-i in
     let ok = (rule_numbered (chart_rules s.t.now) s.k).keeps in
-    record { is = sym (l.invariant.1 ∙ bad ok l.i s.places c.loop-i-test.true
-          (sym c.keeps.ensures ∙ c.if-not-keeps.true)); small = l.invariant.0 }
+    record {
+      is = sym (l.invariant.1 ∙ bad ok l.i s.places c.loop-i-test.true
+          (sym c.keeps.ensures ∙ c.if-not-keeps.true));
+      small = l.invariant.0;
+    }
 
 pub loop-i-preserved : goal.loop-i-preserved
 loop-i-preserved c =
