@@ -35,8 +35,8 @@ module _ (c : Chart) (words : List ℕ) (acts : List Bool) (t : ℕ) where
   unfolding fires leaves enters left?
   fires_unscoped e =
       ap₂ (λ (xs ys : List Step). xs ++ (take_step c t ∷ ys))
-      (join_down_cong c.states (λ j h. rw (e, and_comm (is_and c j && get_or acts j false) false) refl) ∙ none_down c.states)
-      (join_up_cong c.states (λ j h. rw e refl) ∙ none_up c.states)
+      (join_down_cong {g = λ (j : ℕ). []} c.states (λ j h. rw (e, and_comm (is_and c j && get_or acts j false) false) refl) ∙ none_down c.states)
+      (join_up_cong {g = λ (j : ℕ). []} c.states (λ j h. rw e refl) ∙ none_up c.states)
 
   pub fires_scoped : scoped c t ≡ true → fires c words acts t ≡ leaves_below c acts (scope c t) ++ (take_step c t ∷ enters_all c (entereds c words t))
   unfolding fires leaves enters left? leaves_below left_below enters_all

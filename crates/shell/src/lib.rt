@@ -5,7 +5,10 @@
 ghost use Rattle.std.specs.Prelude.{◌≡◌, ◌+◌, ◌-◌, ◌*◌, ◌<◌, ◌≤◌, min, set};
 ghost use Rattle.io.specs.Counts.{IsPrefixLen};
 
-use libc::{STDIN_FILENO, STDOUT_FILENO};
+// The numbers of the two streams.
+const STDIN: i32 = 0;
+
+const STDOUT: i32 = 1;
 
 // The smaller of two numbers.
 fn least(a: usize, b: usize) -> usize
@@ -39,7 +42,7 @@ fn read_some(words: &mut [u16], at: usize, to: usize) -> usize
 {
     let mut bytes = io::buffer();
     let wanted = 2 * least(to - at, 2048);
-    let count = io::read_full(STDIN_FILENO, &mut bytes[..wanted]) / 2;
+    let count = io::read_full(STDIN, &mut bytes[..wanted]) / 2;
     unpack(&bytes, count, words, at);
     at + count
 }
@@ -72,7 +75,7 @@ pub fn lent(words: usize, room: &[u16]) -> usize
 pub fn read_bytes(bytes: &mut [u8]) -> usize
     ensures { IsPrefixLen result bytes.new }
 {
-    io::read_full(STDIN_FILENO, bytes)
+    io::read_full(STDIN, bytes)
 }
 
 // Text on its way to standard output. How many of its bytes wait is a number beside it, `at`.
@@ -81,7 +84,7 @@ pub type Text = [u8; 4096];
 // Writes the first `most` of some bytes to standard output, or all where there are fewer.
 fn write_first(bytes: &[u8], most: usize) {
     let count = least(most, bytes.len());
-    io::write_all(STDOUT_FILENO, &bytes[..count]);
+    io::write_all(STDOUT, &bytes[..count]);
 }
 
 // Writes the `at` bytes that wait to standard output.

@@ -22,8 +22,11 @@ returns-then-up-o c =
     let v = view c.args.t.now in
     let low = c.loop-x-test.true in
     let up : v.parent l.x ≤ c.args.o = omega (arith, c.state_word-up.ensures.is, c.if-up-o.true) in
-    record { state = l.invariant.0; toward = λ y h e. l.invariant.1 y h e
-          ∙ toward_at (tree c.requires.0) c.args.o c.requires.1 l.x y l.invariant.0 low up h e }
+    record {
+      state = l.invariant.0;
+      toward = λ y h e. l.invariant.1 y h e
+          ∙ toward_at (tree c.requires.0) c.args.o c.requires.1 l.x y l.invariant.0 low up h e;
+    }
 
 pub loop-x-smaller : goal.loop-x-smaller
 loop-x-smaller c =
@@ -49,5 +52,8 @@ loop-x-preserved c =
 pub returns : goal.returns
 returns c =
     let l = c.loop-x in
-    record { state = l.invariant.0; toward = λ y h e. l.invariant.1 y h e
-          ∙ toward_end (tree c.requires.0) c.args.o c.requires.1 l.x y l.invariant.0 c.loop-x-test.false h e }
+    record {
+      state = l.invariant.0;
+      toward = λ y h e. l.invariant.1 y h e
+          ∙ toward_end (tree c.requires.0) c.args.o c.requires.1 l.x y l.invariant.0 c.loop-x-test.false h e;
+    }

@@ -75,10 +75,13 @@ returns c =
     let s = c.args in
     let l = c.loop-left in
     let v = view s.t.now in
-    record { more = (λ j. sym (l.invariant.2 j
+    record {
+      more = (λ j. sym (l.invariant.2 j
           ∙ ap (λ (b : Bool). get_or (cells l.set) j false || (child_of? v s.o j && b))
           (any_end (within v j) v.target l.i l.left c.loop-left-test.false)
-          ∙ no_more (child_of? v s.o j) (get_or (cells l.set) j false))); none = λ a. (l.invariant.3 a).0 }
+          ∙ no_more (child_of? v s.o j) (get_or (cells l.set) j false)));
+      none = λ a. (l.invariant.3 a).0;
+    }
 
 pub transition_word-i-requires : goal.transition_word-i-requires
 transition_word-i-requires c = search chart_needs

@@ -21,9 +21,9 @@ lets false = refl
 
 -- the transitions before s let k be taken, and s is taken or k
 pub record Passed (c : Chart) (taken : List Bool) (k s : ℕ) : Type 0 where
-  up_to : s ≤ k
-  let_be : all_below (lets? c taken k) s ≡ true
-  member : s < k → get_or taken s false ≡ true
+  pub up_to : s ≤ k
+  pub let_be : all_below (lets? c taken k) s ≡ true
+  pub member : s < k → get_or taken s false ≡ true
 
 abbrev pub invariant-loop-s : goal.invariant-loop-s
 invariant-loop-s l = Passed (view l.t) (cells l.taken) l.k l.s
