@@ -10,5 +10,4 @@ flatten_accepted-requires c =
 pub returns-in-Refused : goal.returns-in-Refused
 returns-in-Refused c =
     let s = c.args in
-    let known = c.verdict-1.given in
-    chart_refused s.t.now c.check-verdict.result c.check-verdict.ensures s.room.now known.0.0 known.1
+    chart_refused s.t.now c.check-verdict.result c.check-verdict.ensures s.room.now c.in-Refused.refusal c.in-Refused.is
