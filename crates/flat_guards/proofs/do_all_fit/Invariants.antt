@@ -3,7 +3,8 @@ use mathlib.Core.Path.{◌≡◌}
 use lib.ListN.{length}
 use Rattle.flat.specs.View.{flat_view}
 use Rattle.flat_guards.specs.Parts.{fits}
-use Rattle.flat_guards.proofs.Spans.{
+use Rattle.flat_guards.proofs.Spans.{Walk}
+use Rattle.flat_guards.proofs.Asked.{Asked}
 use Rattle.flat_guards.proofs.do_all_fit.Given as goal
 
 abbrev pub invariant-loop-left : goal.invariant-loop-left
