@@ -1,5 +1,4 @@
 -- `flat_engine::good_words` meets its contract: each word passed is a state of its machine. Assumes nothing.
-use borrow.Author.Tests.{not-true, not-false}
 use Prim.Native.Nat.{◌-◌, zero-le}
 use native.Mathlib.Nat.{le_of_eq, le_antisymm, lt_of_lt_of_le}
 use mathlib.Core.Path.{refl, sym, ap, ◌∙◌}
