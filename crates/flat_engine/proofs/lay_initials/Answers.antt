@@ -1,5 +1,5 @@
 -- `flat_engine::lay_initials` meets its contract: the initial states of the machines passed are laid. Assumes nothing.
-use Prim.Native.Nat.{◌-◌, zero-le}
+use Prim.Native.Nat.{zero-le}
 use native.Mathlib.Nat.{le_of_eq, le_trans, le_antisymm, lt_of_lt_of_le}
 use mathlib.Core.Path.{◌∙◌}
 use lib.Dec.{lit<}

@@ -7,9 +7,21 @@ use lib.Dec.{lit<}
 use Rattle.marks.proofs.Room.{room_kept}
 use Rattle.words.proofs.Counting.{one_less, first_of_two}
 use Rattle.flat_rules.proofs.Readable.{flat_readable}
-use Rattle.flat_guards.specs.Parts.{fits, all_fit}
+use Rattle.flat_guards.specs.Parts.{all_fit}
 use Rattle.flat_guards.proofs.Room.{room, thrice_fits, place_fits}
-use Rattle.flat_guards.proofs.Spans.{span_first, walk_start, walk_end, walk_past, walk_next_fits, walk_reads, walk_place_fits, walk_names, walk_smaller, walk_bad, walk_good}
+use Rattle.flat_guards.proofs.Spans.{
+  span_first,
+  walk_start,
+  walk_end,
+  walk_past,
+  walk_next_fits,
+  walk_reads,
+  walk_place_fits,
+  walk_names,
+  walk_smaller,
+  walk_bad,
+  walk_good,
+}
 use Rattle.flat_guards.proofs.Asked.{asked_none, asked_next}
 use Rattle.flat_guards.proofs.do_all_fit.Goals as goal
 
@@ -41,7 +53,12 @@ returns-then-not-does_fit c =
     let on = c.loop-left-test.true in
     let v = c.loop-left.invariant in
     let d = c.does_fit in
-    record { is = sym (walk_bad v.0 on c.literal_at-literal.ensures d.ensures c.if-not-does_fit.true); asked = λ e. absurd (true≢false (sym e)); more = v.2.more; above = v.2.above }
+    record {
+      is = sym (walk_bad v.0 on c.literal_at-literal.ensures d.ensures c.if-not-does_fit.true);
+      asked = λ e. absurd (true≢false (sym e));
+      more = v.2.more;
+      above = v.2.above;
+    }
 
 -- the guard that a literal asks for is smaller, so it has a mark
 pub ask-requires : goal.ask-requires
@@ -73,7 +90,13 @@ pub returns : goal.returns
 unfolding all_fit
 returns c =
     let v = c.loop-left.invariant in
-    record { is = sym (walk_end v.0 c.loop-left-test.false); asked = λ e a n. v.2.asked n.literal n.from (walk_past v.0 c.loop-left-test.false _ n.within) a n.asks; more = v.2.more; above = v.2.above }
+    let end = c.loop-left-test.false in
+    record {
+      is = sym (walk_end v.0 end);
+      asked = λ e a n. v.2.asked n.literal n.from (walk_past v.0 end _ n.within) a n.asks;
+      more = v.2.more;
+      above = v.2.above;
+    }
 
 pub guard_at-at-requires : goal.guard_at-at-requires
 guard_at-at-requires c = (

@@ -9,7 +9,9 @@ use Rattle.flat_guards.proofs.do_all_fit.Given as goal
 
 abbrev pub invariant-loop-left : goal.invariant-loop-left
 invariant-loop-left l =
-    Walk (fits (flat_view l.t) l.current l.vars) l.t l.k l.i l.place l.left × (length l.marks ≡ length l.initial.marks) × Asked (flat_view l.t) l.k l.i l.initial.marks l.marks
+    Walk (fits (flat_view l.t) l.current l.vars) l.t l.k l.i l.place l.left
+    × (length l.marks ≡ length l.initial.marks)
+    × Asked (flat_view l.t) l.k l.i l.initial.marks l.marks
 
 abbrev pub decreases-loop-left : goal.decreases-loop-left
 decreases-loop-left l = l.left

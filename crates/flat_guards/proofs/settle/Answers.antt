@@ -1,5 +1,5 @@
 -- `flat_guards::settle` meets its contract: the guards below k are settled, and the others are still marked. Assumes nothing.
-use Prim.Native.Nat.{ℕ, ◌-◌, ◌<◌}
+use Prim.Native.Nat.{ℕ, ◌<◌}
 use native.Mathlib.Nat.{le_of_eq, le_trans, lt_of_lt_of_le}
 use mathlib.Core.Path.{◌≡◌, refl, sym, ◌∙◌}
 use lib.Dec.{lit<}

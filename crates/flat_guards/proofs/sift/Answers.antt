@@ -1,5 +1,5 @@
 -- `flat_guards::sift` meets its contract: the guards from k on were gone through, and of these the ones that fit are left. Assumes nothing.
-use Prim.Native.Nat.{◌-◌, ◌<◌}
+use Prim.Native.Nat.{◌-◌}
 use native.Mathlib.Nat.{le_of_eq, le_of_lt, le_trans, lt_of_le_of_lt, lt_of_lt_of_le}
 use mathlib.Core.Path.{refl, ◌∙◌}
 use lib.Dec.{lit<}

@@ -1,6 +1,6 @@
 -- `flat_macrostep::pass` meets its contract: before each time the outputs are as they were, and it is the first time, or what is
 -- meant ends well and all words are lent. Assumes nothing.
-use Prim.Native.Nat.{ℕ, ◌+◌, ◌-◌, zero-le}
+use Prim.Native.Nat.{ℕ, ◌+◌, zero-le}
 use native.Mathlib.Nat.{le_of_eq, le_trans}
 use mathlib.Core.Path.{◌≡◌, refl, sym, ap, ap₂, ◌∙◌}
 use mathlib.Core.Bool.{true}

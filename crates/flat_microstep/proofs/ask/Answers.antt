@@ -1,6 +1,5 @@
 -- `flat_microstep::ask` meets its contract: the rules of the trigger before `until` are asked for, and k is the next. Assumes nothing.
 use borrow.Author.Rules.{rules}
-use Prim.Native.Nat.{◌-◌}
 use native.Mathlib.Nat.{le_refl}
 use mathlib.Core.Path.{refl}
 use native.Mathlib.Omega.{arith}

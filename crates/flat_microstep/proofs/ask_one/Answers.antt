@@ -14,7 +14,8 @@ use Rattle.flat_microstep.proofs.Asking.{both_marked, one_marked}
 use Rattle.flat_microstep.proofs.ask_one.Goals as goal
 
 -- the rule has six words, and where they are is a number of the machine
-in_rule : (t : List ℕ) → FlatRules t → (k at : ℕ) → k < (flat_view t).rules → at ≡ rule_at t k → (i : ℕ) → i < 6 → at + i < length t
+in_rule : (t : List ℕ) → FlatRules t → (k at : ℕ) → k < (flat_view t).rules → at ≡ rule_at t k
+    → (i : ℕ) → i < 6 → at + i < length t
 in_rule t g k at h is i l = rule_in_lem t (flat_readable g) k h at i is l
 
 pub add-requires : goal.add-requires
@@ -56,13 +57,17 @@ pub rule_at-at-requires : goal.rule_at-at-requires
 rule_at-at-requires c = (flat_readable c.requires.0, c.requires.1)
 
 pub overflow_add-at : goal.overflow_add-at
-overflow_add-at c = record { fits = lt_trans (in_rule c.args.t.now c.requires.0 c.args.k _ c.requires.1 c.rule_at-at.ensures.is 1 (lit< tt)) c.well_formed.0.0 }
+overflow_add-at c =
+    let inside = in_rule c.args.t.now c.requires.0 c.args.k _ c.requires.1 c.rule_at-at.ensures.is 1 (lit< tt) in
+    record { fits = lt_trans inside c.well_formed.0.0 }
 
 pub number_in-first-requires : goal.number_in-first-requires
 number_in-first-requires c = in_rule c.args.t.now c.requires.0 c.args.k _ c.requires.1 c.rule_at-at.ensures.is 1 (lit< tt)
 
 pub overflow_add-at-2 : goal.overflow_add-at-2
-overflow_add-at-2 c = record { fits = lt_trans (in_rule c.args.t.now c.requires.0 c.args.k _ c.requires.1 c.rule_at-at.ensures.is 2 (lit< tt)) c.well_formed.0.0 }
+overflow_add-at-2 c =
+    let inside = in_rule c.args.t.now c.requires.0 c.args.k _ c.requires.1 c.rule_at-at.ensures.is 2 (lit< tt) in
+    record { fits = lt_trans inside c.well_formed.0.0 }
 
 pub number_in-second-requires : goal.number_in-second-requires
 number_in-second-requires c = in_rule c.args.t.now c.requires.0 c.args.k _ c.requires.1 c.rule_at-at.ensures.is 2 (lit< tt)

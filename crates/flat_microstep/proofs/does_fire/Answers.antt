@@ -14,7 +14,8 @@ use Rattle.flat_microstep.proofs.Firing.{not_first, then_second}
 use Rattle.flat_microstep.proofs.does_fire.Goals as goal
 
 -- the rule has six words, and where they are is a number of the machine
-in_rule : (t : List ℕ) → FlatRules t → (k at : ℕ) → k < (flat_view t).rules → at ≡ rule_at t k → (i : ℕ) → i < 6 → at + i < length t
+in_rule : (t : List ℕ) → FlatRules t → (k at : ℕ) → k < (flat_view t).rules → at ≡ rule_at t k
+    → (i : ℕ) → i < 6 → at + i < length t
 in_rule t g k at h is i l = rule_in_lem t (flat_readable g) k h at i is l
 
 pub has-requires : goal.has-requires
@@ -46,13 +47,17 @@ returns c =
     has.result c.has-2.result has.ensures c.if-not-has.false c.has-2.ensures
 
 pub overflow_add-at : goal.overflow_add-at
-overflow_add-at c = record { fits = lt_trans (in_rule c.args.t.now c.requires.0 c.args.k _ c.requires.1 c.requires.2 1 (lit< tt)) c.well_formed.0.0 }
+overflow_add-at c =
+    let inside = in_rule c.args.t.now c.requires.0 c.args.k _ c.requires.1 c.requires.2 1 (lit< tt) in
+    record { fits = lt_trans inside c.well_formed.0.0 }
 
 pub number_in-requires : goal.number_in-requires
 number_in-requires c = in_rule c.args.t.now c.requires.0 c.args.k _ c.requires.1 c.requires.2 1 (lit< tt)
 
 pub overflow_add-at-2 : goal.overflow_add-at-2
-overflow_add-at-2 c = record { fits = lt_trans (in_rule c.args.t.now c.requires.0 c.args.k _ c.requires.1 c.requires.2 2 (lit< tt)) c.well_formed.0.0 }
+overflow_add-at-2 c =
+    let inside = in_rule c.args.t.now c.requires.0 c.args.k _ c.requires.1 c.requires.2 2 (lit< tt) in
+    record { fits = lt_trans inside c.well_formed.0.0 }
 
 pub number_in-requires-2 : goal.number_in-requires-2
 number_in-requires-2 c = in_rule c.args.t.now c.requires.0 c.args.k _ c.requires.1 c.requires.2 2 (lit< tt)

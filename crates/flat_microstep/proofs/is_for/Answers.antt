@@ -19,7 +19,9 @@ returns c =
     ap (λ (w : ℕ). eqb w s.e) (rule_word s.t.now s.k s.at 0 _ c.requires.2 c.word_in.ensures)
 
 pub overflow_add-at : goal.overflow_add-at
-overflow_add-at c = record { fits = lt_trans (inside c.args.t.now c.requires.0 c.args.k c.args.at c.requires.1 c.requires.2) c.well_formed.0.0 }
+overflow_add-at c =
+    let in_table = inside c.args.t.now c.requires.0 c.args.k c.args.at c.requires.1 c.requires.2 in
+    record { fits = lt_trans in_table c.well_formed.0.0 }
 
 pub word_in-requires : goal.word_in-requires
 word_in-requires c = inside c.args.t.now c.requires.0 c.args.k c.args.at c.requires.1 c.requires.2

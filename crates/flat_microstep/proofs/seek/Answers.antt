@@ -2,7 +2,6 @@
 use Prim.Native.Nat.{ℕ, ◌+◌, ◌*◌, ◌^◌, ◌<◌, ◌≤◌}
 use native.Mathlib.Nat.{le_refl, le_trans}
 use mathlib.Core.Path.{◌≡◌, sym, ap, ◌∙◌}
-use mathlib.Core.Bool.{false}
 use native.Mathlib.Omega.{arith}
 use mathlib.Core.List.{List}
 use lib.Dec.{lit<, lit≤}
@@ -14,7 +13,20 @@ use Rattle.flat.specs.View.{flat_view, rule_at}
 use Rattle.flat.specs.Readable.{FlatReadable}
 use Rattle.flat_microstep.specs.Stretch.{has?}
 use Rattle.flat_microstep.proofs.Inside.{number_fits, words_fit, begin_fits, place_fits}
-use Rattle.flat_microstep.proofs.Seeking.{skip_one, skip_two, skip_three, found, found_in_turn, not_found, on_by_four, on_by_one, in_turn_lem, four_less, rule_there, rules_there}
+use Rattle.flat_microstep.proofs.Seeking.{
+  skip_one,
+  skip_two,
+  skip_three,
+  found,
+  found_in_turn,
+  not_found,
+  on_by_four,
+  on_by_one,
+  in_turn_lem,
+  four_less,
+  rule_there,
+  rules_there,
+}
 use Rattle.flat_microstep.proofs.seek.Goals as goal
 
 pub overflow_mul-at : goal.overflow_mul-at
@@ -33,7 +45,8 @@ loop-j-init c =
     (le_refl c.args.k, c.requires.1, place, λ i h l. absurd (omega arith))
 
 -- in a turn from rule j on, the numbers and the places of rules are numbers of the machine
-module _ (t : List ℕ) (can : FlatReadable t) (long : length t * 2 < 2 ^ 63) (n j : ℕ) (inside : n ≤ (flat_view t).rules) (l : j ≤ n) where
+module _ (t : List ℕ) (can : FlatReadable t) (long : length t * 2 < 2 ^ 63) (n j : ℕ)
+    (inside : n ≤ (flat_view t).rules) (l : j ≤ n) where
   number : (i : ℕ) → i ≤ 4 → Fits w64 (j + i)
   number i m = number_fits t can long j (le_trans l inside) i m
 
@@ -83,7 +96,8 @@ returns-then-is_for-2 c =
     let s = c.args in
     let p = has? (flat_view s.t.now) s.e in
     found_in_turn p s.k s.n l.j 1 l.invariant.0 c.loop-j-test.true (lit≤ tt)
-    (skip_one p s.k l.j l.invariant.3 (sym c.is_for.ensures ∙ c.if-is_for.false)) (sym c.is_for-in-loop-j.ensures ∙ c.if-is_for-2.true)
+    (skip_one p s.k l.j l.invariant.3 (sym c.is_for.ensures ∙ c.if-is_for.false))
+    (sym c.is_for-in-loop-j.ensures ∙ c.if-is_for-2.true)
 
 pub returns-then-is_for-3 : goal.returns-then-is_for-3
 returns-then-is_for-3 c =
@@ -91,7 +105,9 @@ returns-then-is_for-3 c =
     let s = c.args in
     let p = has? (flat_view s.t.now) s.e in
     found_in_turn p s.k s.n l.j 2 l.invariant.0 c.loop-j-test.true (lit≤ tt)
-    (skip_two p s.k l.j l.invariant.3 (sym c.is_for.ensures ∙ c.if-is_for.false) (sym c.is_for-in-loop-j.ensures ∙ c.if-is_for-2.false)) (sym c.is_for-in-loop-j-2.ensures ∙ c.if-is_for-3.true)
+    (skip_two p s.k l.j l.invariant.3 (sym c.is_for.ensures ∙ c.if-is_for.false)
+    (sym c.is_for-in-loop-j.ensures ∙ c.if-is_for-2.false))
+    (sym c.is_for-in-loop-j-2.ensures ∙ c.if-is_for-3.true)
 
 pub returns-then-is_for-4 : goal.returns-then-is_for-4
 returns-then-is_for-4 c =
@@ -100,7 +116,8 @@ returns-then-is_for-4 c =
     let p = has? (flat_view s.t.now) s.e in
     found_in_turn p s.k s.n l.j 3 l.invariant.0
     c.loop-j-test.true (lit≤ tt)
-    (skip_three p s.k l.j l.invariant.3 (sym c.is_for.ensures ∙ c.if-is_for.false) (sym c.is_for-in-loop-j.ensures ∙ c.if-is_for-2.false) (sym c.is_for-in-loop-j-2.ensures ∙ c.if-is_for-3.false))
+    (skip_three p s.k l.j l.invariant.3 (sym c.is_for.ensures ∙ c.if-is_for.false)
+    (sym c.is_for-in-loop-j.ensures ∙ c.if-is_for-2.false) (sym c.is_for-in-loop-j-2.ensures ∙ c.if-is_for-3.false))
     (sym c.is_for-in-loop-j-3.ensures ∙ c.if-is_for-4.true)
 
 pub loop-j-preserved : goal.loop-j-preserved
@@ -109,7 +126,8 @@ loop-j-preserved c =
     let s = c.args in
     on_by_four s.t.now s.e s.k s.n l.j l.at l.invariant.0 l.invariant.2 l.invariant.3
     c.loop-j-test.true
-    (sym c.is_for.ensures ∙ c.if-is_for.false) (sym c.is_for-in-loop-j.ensures ∙ c.if-is_for-2.false) (sym c.is_for-in-loop-j-2.ensures ∙ c.if-is_for-3.false) (sym c.is_for-in-loop-j-3.ensures ∙ c.if-is_for-4.false)
+    (sym c.is_for.ensures ∙ c.if-is_for.false) (sym c.is_for-in-loop-j.ensures ∙ c.if-is_for-2.false)
+    (sym c.is_for-in-loop-j-2.ensures ∙ c.if-is_for-3.false) (sym c.is_for-in-loop-j-3.ensures ∙ c.if-is_for-4.false)
 
 pub returns-then-is_for-5 : goal.returns-then-is_for-5
 returns-then-is_for-5 c =

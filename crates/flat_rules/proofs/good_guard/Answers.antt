@@ -2,7 +2,7 @@
 use Prim.Native.Nat.{ℕ, ◌+◌, zero-le}
 use native.Mathlib.Nat.{le_antisymm, lt_trans}
 use mathlib.Core.Path.{◌≡◌, refl, sym, ap, ◌∙◌}
-use mathlib.Core.Bool.{Bool, true}
+use mathlib.Core.Bool.{Bool}
 use mathlib.Core.List.{List}
 use lib.ListN.{get_or}
 use Rattle.words.proofs.Counting.{next_in, less_left, next_fits, first_of_two}
