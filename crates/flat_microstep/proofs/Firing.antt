@@ -1,8 +1,7 @@
 -- The rules that fire are those of the trigger whose guards are true. Assumes nothing.
-use borrow.Author.Tests.{not-true, not-false}
 use Prim.Native.Nat.{ℕ, ◌<◌, ◌≤◌}
 use mathlib.Core.Path.{◌≡◌, refl, sym, ap, ap₂, ◌∙◌}
-use mathlib.Core.Bool.{Bool, true, false, not, ◌&&◌}
+use mathlib.Core.Bool.{Bool, true, false, ◌&&◌}
 use mathlib.Core.Logic.{◌≢◌}
 use mathlib.Core.List.{List, []}
 use native.Mathlib.Omega.{arith}
@@ -29,12 +28,12 @@ span_does t at = refl
 module _ (f : Flat) (k : ℕ) where
   -- guard a, the first of rule k, is asked, and then b, its second
   module _ (known : ℕ → Bool) (a : ℕ) (first : a ≡ f.first_guard k) where
-    pub not_first : (r : Bool) → r ≡ known a → not r ≡ true → false ≡ (known (f.first_guard k) && known (f.second_guard k))
-    not_first r told fails = rw (← first, ← told, not-true r fails) refl
+    pub not_first : (r : Bool) → r ≡ known a → r ≡ false → false ≡ (known (f.first_guard k) && known (f.second_guard k))
+    not_first r told fails = rw (← first, ← told, fails) refl
 
-    pub then_second : (b : ℕ) → b ≡ f.second_guard k → (r q : Bool) → r ≡ known a → not r ≡ false → q ≡ known b
+    pub then_second : (b : ℕ) → b ≡ f.second_guard k → (r q : Bool) → r ≡ known a → r ≡ true → q ≡ known b
         → q ≡ (known (f.first_guard k) && known (f.second_guard k))
-    then_second b second r q told holds then = rw (← first, ← second, ← told, not-false r holds) then
+    then_second b second r q told holds then = rw (← first, ← second, ← told, holds) then
 
   -- rule k has target j: its machine's word is put; or it has none, and no word is
   module _ (j : ℕ) (target : j ≡ f.target k) where

@@ -1,7 +1,7 @@
 -- Tests on numbers that are read are the tests of specs/Tests.antt on what the table shows; and where they are read is inside it.
 -- Assumes nothing.
 use Prim.Native.Nat.{ℕ, ◌+◌, ◌*◌, ◌-◌, ◌<◌, ◌≤◌}
-use mathlib.Core.Path.{◌≡◌, refl, sym, ap, ◌∙◌}
+use mathlib.Core.Path.{◌≡◌, refl, ap, ◌∙◌}
 use mathlib.Core.Bool.{Bool, true, ◌&&◌}
 use mathlib.Core.Logic.{◌≢◌}
 use mathlib.Core.List.{List}
@@ -14,7 +14,6 @@ use Rattle.words.proofs.Tests.{eqb_yes, eqb_no, ltb_yes, ltb_no}
 use Rattle.table.specs.Span.{span_at, inside?}
 use Rattle.table.specs.Triple.{triple_at}
 use Rattle.table.specs.Rows.{good_item_in?}
-use Rattle.table.specs.declared.ItemCounts.{ItemCounts}
 use Rattle.flat.specs.View.{Flat, flat_view, literal_at, rule_at}
 use Rattle.flat_rules.specs.Tests.{good_machine?, good_flat_state?, good_machines?, good_flat_literal?, guard_literal?, flat_literal_kept}
 use Rattle.flat_rules.specs.Tests.{flat_item_kept, good_flat_target?, good_names?, good_rule?}

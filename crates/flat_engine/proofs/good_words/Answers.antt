@@ -1,9 +1,7 @@
 -- `flat_engine::good_words` meets its contract: each word passed is a state of its machine. Assumes nothing.
-use borrow.Author.Tests.{not-true, not-false}
-use Prim.Native.Nat.{◌-◌, zero-le}
+use Prim.Native.Nat.{zero-le}
 use native.Mathlib.Nat.{le_of_eq, le_antisymm, lt_of_lt_of_le}
 use mathlib.Core.Path.{refl, sym, ap, ◌∙◌}
-use mathlib.Core.Bool.{true}
 use lib.Dec.{lit<}
 use Rattle.words.proofs.Counting.{next_in, less_left, next_fits}
 use Rattle.words.specs.Loops.{all_below}

@@ -1,5 +1,5 @@
 -- `flat_engine::lay_initials` meets its contract: the initial states of the machines passed are laid. Assumes nothing.
-use Prim.Native.Nat.{◌-◌, zero-le}
+use Prim.Native.Nat.{zero-le}
 use native.Mathlib.Nat.{le_of_eq, le_trans, le_antisymm, lt_of_lt_of_le}
 use mathlib.Core.Path.{◌∙◌}
 use lib.Dec.{lit<}
@@ -46,9 +46,9 @@ head-machines-requires c = (flat_readable c.requires.0, lit< tt)
 
 pub initial_of-requires : goal.initial_of-requires
 initial_of-requires c = (
-      flat_readable c.requires.0,
-      lt_of_lt_of_le c.loop-m-test.true (le_of_eq c.head-machines.ensures.is),
-    )
+  flat_readable c.requires.0,
+  lt_of_lt_of_le c.loop-m-test.true (le_of_eq c.head-machines.ensures.is),
+)
 
 pub overflow_cast-initial_of : goal.overflow_cast-initial_of
 overflow_cast-initial_of c = record { fits = c.initial_of.ensures.small }

@@ -11,9 +11,8 @@ run_accepted-requires c =
 pub returns-in-Refused : goal.returns-in-Refused
 returns-in-Refused c =
     let s = c.args in
-    let known = c.verdict-1.given in
     run_refused s.t.now c.checked-verdict.result c.checked-verdict.ensures s.state.now s.event s.outputs.now
-    known.0.0 known.1
+    c.in-Refused.refusal c.in-Refused.is
 
 pub returns-in-Done : goal.returns-in-Done
 returns-in-Done c =

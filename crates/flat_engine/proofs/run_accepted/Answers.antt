@@ -1,6 +1,5 @@
 -- `flat_engine::run_accepted` meets its contract: state and event are tested in the order of the refusals, and there is a bit
 -- for each guard. Assumes nothing.
-use borrow.Author.Tests.{not-true, not-false}
 use Prim.Native.Nat.{◌+◌, ◌/◌}
 use native.Mathlib.Nat.{le_of_eq, le_trans, lt_of_le_of_lt, lt_of_lt_of_le}
 use mathlib.Core.Path.{sym, ◌∙◌}

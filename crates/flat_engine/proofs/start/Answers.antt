@@ -11,8 +11,7 @@ start_accepted-requires c =
 pub returns-in-Refused : goal.returns-in-Refused
 returns-in-Refused c =
     let s = c.args in
-    let known = c.verdict-1.given in
-    start_refused s.t.now c.check-verdict.result c.check-verdict.ensures s.state.now known.0.0 known.1
+    start_refused s.t.now c.check-verdict.result c.check-verdict.ensures s.state.now c.in-Refused.refusal c.in-Refused.is
 
 pub returns-in-Done : goal.returns-in-Done
 returns-in-Done c =

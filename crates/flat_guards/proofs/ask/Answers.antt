@@ -33,13 +33,17 @@ returns-in-Fails c =
     ∙ sym (ap (λ (x : FlatLiteral). asking x marks) c.in-Fails.is)
 
 pub returns-in-Current : goal.returns-in-Current
+unfolding asking
 returns-in-Current c = sym (ap (λ (x : FlatLiteral). asking x c.args.marks.now) c.in-Current.is)
 
 pub returns-in-NotCurrent : goal.returns-in-NotCurrent
+unfolding asking
 returns-in-NotCurrent c = sym (ap (λ (x : FlatLiteral). asking x c.args.marks.now) c.in-NotCurrent.is)
 
 pub returns-in-AtLeast : goal.returns-in-AtLeast
+unfolding asking
 returns-in-AtLeast c = sym (ap (λ (x : FlatLiteral). asking x c.args.marks.now) c.in-AtLeast.is)
 
 pub returns-in-Less : goal.returns-in-Less
+unfolding asking
 returns-in-Less c = sym (ap (λ (x : FlatLiteral). asking x c.args.marks.now) c.in-Less.is)

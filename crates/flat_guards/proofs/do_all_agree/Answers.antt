@@ -1,6 +1,5 @@
 -- `flat_guards::do_all_agree` meets its contract: what is asked of all literals is asked of those left, which the guard's span holds.
 -- Assumes nothing.
-use borrow.Author.Tests.{not-true, not-false}
 use native.Mathlib.Nat.{lt_trans}
 use mathlib.Core.Path.{refl, sym}
 use lib.Dec.{lit<}
@@ -73,9 +72,9 @@ overflow_add-place c = place_fits _ _ c.head.ensures.small c.number_in-i.ensures
 
 pub overflow_add-at : goal.overflow_add-at
 overflow_add-at c = record {
-      fits = lt_trans c.guard_at-at.ensures.inside
-          c.well_formed.0.0;
-    }
+  fits = lt_trans c.guard_at-at.ensures.inside
+      c.well_formed.0.0;
+}
 
 pub number_in-left-requires : goal.number_in-left-requires
 number_in-left-requires c = c.guard_at-at.ensures.inside

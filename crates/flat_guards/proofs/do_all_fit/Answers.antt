@@ -1,6 +1,5 @@
 -- `flat_guards::do_all_fit` meets its contract: what is asked of all literals is asked of those left, and the literals before them have
 -- asked for their guards, which are smaller. Assumes nothing.
-use borrow.Author.Tests.{not-true, not-false}
 use native.Mathlib.Nat.{le_of_lt, lt_trans, lt_of_lt_of_le}
 use mathlib.Core.Path.{refl, sym, ◌∙◌}
 use mathlib.Core.Bool.{true≢false}
@@ -8,12 +7,9 @@ use lib.Dec.{lit<}
 use Rattle.marks.proofs.Room.{room_kept}
 use Rattle.words.proofs.Counting.{one_less, first_of_two}
 use Rattle.flat_rules.proofs.Readable.{flat_readable}
-use Rattle.flat_guards.specs.Parts.{fits, all_fit}
+use Rattle.flat_guards.specs.Parts.{all_fit}
 use Rattle.flat_guards.proofs.Room.{room, thrice_fits, place_fits}
 use Rattle.flat_guards.proofs.Spans.{
-use Rattle.flat_guards.proofs.do_all_fit.Goals as goal
-
-  Walk,
   span_first,
   walk_start,
   walk_end,
@@ -26,9 +22,8 @@ use Rattle.flat_guards.proofs.do_all_fit.Goals as goal
   walk_bad,
   walk_good,
 }
-use Rattle.flat_guards.proofs.Asked.{Asked, asked_none, asked_next}
-use Rattle.flat_guards.proofs.do_all_fit.Statement.{statement}
-use Rattle.flat_guards.proofs.do_all_fit.Tie as tie
+use Rattle.flat_guards.proofs.Asked.{asked_none, asked_next}
+use Rattle.flat_guards.proofs.do_all_fit.Goals as goal
 
 pub loop-left-init : goal.loop-left-init
 loop-left-init c =
@@ -58,7 +53,12 @@ returns-then-not-does_fit c =
     let on = c.loop-left-test.true in
     let v = c.loop-left.invariant in
     let d = c.does_fit in
-    record { is = sym (walk_bad v.0 on c.literal_at-literal.ensures d.ensures c.if-not-does_fit.true); asked = λ e. absurd (true≢false (sym e)); more = v.2.more; above = v.2.above }
+    record {
+      is = sym (walk_bad v.0 on c.literal_at-literal.ensures d.ensures c.if-not-does_fit.true);
+      asked = λ e. absurd (true≢false (sym e));
+      more = v.2.more;
+      above = v.2.above;
+    }
 
 -- the guard that a literal asks for is smaller, so it has a mark
 pub ask-requires : goal.ask-requires
@@ -70,9 +70,8 @@ ask-requires c =
 
 pub overflow_add-place-in-loop-left : goal.overflow_add-place-in-loop-left
 overflow_add-place-in-loop-left c =
-    let p = c.before.before.before.before.before.before.before.before.before.before.before.before.before.before.before.before.before in
     walk_place_fits c.loop-left.invariant.0
-    c.loop-left-test.true c.requires.0 c.requires.1 p.good.0.0
+    c.loop-left-test.true c.requires.0 c.requires.1 c.well_formed.0.0
 
 pub loop-left-preserved : goal.loop-left-preserved
 loop-left-preserved c =
@@ -91,13 +90,19 @@ pub returns : goal.returns
 unfolding all_fit
 returns c =
     let v = c.loop-left.invariant in
-    record { is = sym (walk_end v.0 c.loop-left-test.false); asked = λ e a n. v.2.asked n.literal n.from (walk_past v.0 c.loop-left-test.false _ n.within) a n.asks; more = v.2.more; above = v.2.above }
+    let end = c.loop-left-test.false in
+    record {
+      is = sym (walk_end v.0 end);
+      asked = λ e a n. v.2.asked n.literal n.from (walk_past v.0 end _ n.within) a n.asks;
+      more = v.2.more;
+      above = v.2.above;
+    }
 
 pub guard_at-at-requires : goal.guard_at-at-requires
 guard_at-at-requires c = (
-      flat_readable c.requires.0,
-      c.requires.1,
-    )
+  flat_readable c.requires.0,
+  c.requires.1,
+)
 
 pub number_in-i-requires : goal.number_in-i-requires
 number_in-i-requires c = first_of_two _ _ c.guard_at-at.ensures.inside
@@ -113,9 +118,9 @@ overflow_add-place c = place_fits _ _ c.head.ensures.small c.number_in-i.ensures
 
 pub overflow_add-at : goal.overflow_add-at
 overflow_add-at c = record {
-      fits = lt_trans c.guard_at-at.ensures.inside
-          c.well_formed.0.0;
-    }
+  fits = lt_trans c.guard_at-at.ensures.inside
+      c.well_formed.0.0;
+}
 
 pub number_in-left-requires : goal.number_in-left-requires
 number_in-left-requires c = c.guard_at-at.ensures.inside

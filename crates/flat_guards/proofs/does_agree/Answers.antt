@@ -27,13 +27,17 @@ returns-in-Fails c =
     c.in-Fails.is
 
 pub returns-in-Current : goal.returns-in-Current
+unfolding agrees
 returns-in-Current c = sym (ap (agrees (marked c.args.marks.now)) c.in-Current.is)
 
 pub returns-in-NotCurrent : goal.returns-in-NotCurrent
+unfolding agrees
 returns-in-NotCurrent c = sym (ap (agrees (marked c.args.marks.now)) c.in-NotCurrent.is)
 
 pub returns-in-AtLeast : goal.returns-in-AtLeast
+unfolding agrees
 returns-in-AtLeast c = sym (ap (agrees (marked c.args.marks.now)) c.in-AtLeast.is)
 
 pub returns-in-Less : goal.returns-in-Less
+unfolding agrees
 returns-in-Less c = sym (ap (agrees (marked c.args.marks.now)) c.in-Less.is)

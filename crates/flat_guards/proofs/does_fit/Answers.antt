@@ -2,18 +2,8 @@
 use mathlib.Core.Path.{sym, ap}
 use Rattle.flat.specs.View.{flat_view}
 use Rattle.flat_guards.specs.Parts.{fits}
-use Rattle.flat_guards.proofs.Arms.{
+use Rattle.flat_guards.proofs.Arms.{current_named, not_current_named, current_fits, not_current_fits, at_least_fits, less_fits}
 use Rattle.flat_guards.proofs.does_fit.Goals as goal
-
-  current_named,
-  not_current_named,
-  current_fits,
-  not_current_fits,
-  at_least_fits,
-  less_fits,
-}
-use Rattle.flat_guards.proofs.does_fit.Statement.{statement}
-use Rattle.flat_guards.proofs.does_fit.Tie as tie
 
 -- the state that the literal names is one
 pub is_current-requires : goal.is_current-requires

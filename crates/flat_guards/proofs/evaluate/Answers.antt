@@ -18,7 +18,7 @@ sift-requires c = c.requires
 
 pub settle-requires : goal.settle-requires
 settle-requires c = (
-      c.requires.0,
-      room_kept _ _ _ c.requires.1
-          c.marks-1.given,
-    )
+  c.requires.0,
+  room_kept _ _ _ c.requires.1
+      c.marks-1.given,
+)

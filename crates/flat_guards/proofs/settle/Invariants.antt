@@ -8,7 +8,9 @@ use Rattle.flat_guards.proofs.Settling.{Settled}
 use Rattle.flat_guards.proofs.settle.Given as goal
 
 abbrev pub invariant-loop-k : goal.invariant-loop-k
-invariant-loop-k l = (length l.marks ≡ length l.initial.marks) × Settled (flat_view l.t) (marked l.initial.marks) l.k (marked l.marks)
+invariant-loop-k l =
+    (length l.marks ≡ length l.initial.marks)
+    × Settled (flat_view l.t) (marked l.initial.marks) l.k (marked l.marks)
 
 abbrev pub decreases-loop-k : goal.decreases-loop-k
 decreases-loop-k l = l.guards - l.k

@@ -1,5 +1,5 @@
 -- What the loops of `flat_guards::sift` keep, and what grows smaller.
-use Prim.Native.Nat.{◌-◌, ◌≤◌}
+use Prim.Native.Nat.{◌≤◌}
 use mathlib.Core.Path.{◌≡◌}
 use lib.ListN.{length}
 use Rattle.flat.specs.View.{flat_view}
@@ -9,7 +9,8 @@ use Rattle.flat_guards.proofs.sift.Given as goal
 
 abbrev pub invariant-loop-k : goal.invariant-loop-k
 invariant-loop-k l =
-    (l.k ≤ (flat_view l.t).guards) × (length l.marks ≡ length l.initial.marks) × Gone (flat_view l.t) l.current l.vars (marked l.initial.marks) l.k (marked l.marks)
+    (l.k ≤ (flat_view l.t).guards) × (length l.marks ≡ length l.initial.marks)
+    × Gone (flat_view l.t) l.current l.vars (marked l.initial.marks) l.k (marked l.marks)
 
 abbrev pub decreases-loop-k : goal.decreases-loop-k
 decreases-loop-k l = l.k

@@ -39,9 +39,9 @@ load-requires c = (zero-le, words_from_0 _ _ _ c.requires.1.state_long)
 
 pub load-requires-2 : goal.load-requires-2
 load-requires-2 c = (
-      few_words _ _ c.requires.1.few c.next-1.given,
-      vars_behind _ _ _ c.requires.1.state_long _ c.next-1.given,
-    )
+  few_words _ _ c.requires.1.few c.next-1.given,
+  vars_behind _ _ _ c.requires.1.state_long _ c.next-1.given,
+)
 
 pub shape_of-next : goal.shape_of-next
 shape_of-next c = c.next-2-1.given

@@ -1,11 +1,11 @@
 -- `flat_macrostep::pass` meets its contract: before each time the outputs are as they were, and it is the first time, or what is
 -- meant ends well and all words are lent. Assumes nothing.
-use Prim.Native.Nat.{ℕ, ◌+◌, ◌-◌, ◌≤◌, zero-le}
+use Prim.Native.Nat.{ℕ, ◌+◌, zero-le}
 use native.Mathlib.Nat.{le_of_eq, le_trans}
 use mathlib.Core.Path.{◌≡◌, refl, sym, ap, ap₂, ◌∙◌}
 use mathlib.Core.Bool.{true}
 use mathlib.Core.List.{List, ◌++◌}
-use lib.ListN.{length, take}
+use lib.ListN.{length}
 use lib.Seq.{length-take-le}
 use Rattle.marks.proofs.Room.{room_kept}
 use Rattle.words.proofs.Tests.{by_bool, clash}
@@ -36,11 +36,6 @@ module _ (state o : List ℕ) (n : Progress) (words vars outs : List ℕ) (meant
 
 pub loop-event-init : goal.loop-event-init
 loop-event-init c = (refl, refl, refl, refl, refl, untried refl)
-
--- the outputs are as they were, and what is lent of them is there
-lent_in : (c : goal.At-loop-event invariant-loop decreases-loop) → c.loop.lent ≤ length c.loop.outputs
-lent_in c =
-    le_trans (before_fits c.before.before.before.before.before.before.before.before.before.before.before.before.before.before.before.requires.2 c.loop.invariant.5) (le_of_eq (sym (ap length c.loop.invariant.4)))
 
 pub attempt-n-requires : goal.attempt-n-requires
 attempt-n-requires c =
@@ -154,16 +149,21 @@ loop-event-preserved c =
 
 pub load-requires : goal.load-requires
 load-requires c = (
-      zero-le,
-      from_0 _ _ c.requires.2,
-    )
+  zero-le,
+  from_0 _ _ c.requires.2,
+)
 
+-- the outputs are as they were, and what is lent of them is there
 pub slice_bounds-attempt-end : goal.slice_bounds-attempt-end
-slice_bounds-attempt-end c = lent_in c.before.before.before
+slice_bounds-attempt-end c =
+    let i = c.loop-event.invariant in
+    le_trans (before_fits c.requires.2 i.5) (le_of_eq (sym (ap length i.4)))
 
 pub slice_bounds-attempt-end-in-loop-event : goal.slice_bounds-attempt-end-in-loop-event
-slice_bounds-attempt-end-in-loop-event c = sym (length-take-le c.loop-event.lent c.loop-event.outputs
-    (lent_in c.before.before.before.before))
+slice_bounds-attempt-end-in-loop-event c =
+    let i = c.loop-event.invariant in
+    sym (length-take-le c.loop-event.lent c.loop-event.outputs
+    (le_trans (before_fits c.requires.2 i.5) (le_of_eq (sym (ap length i.4)))))
 
 pub shape_of-marks-then-is_told : goal.shape_of-marks-then-is_told
 shape_of-marks-then-is_told c = c.marks-1.given

@@ -11,10 +11,11 @@ use Rattle.flat_macrostep.proofs.pass.Given as goal
 
 abbrev pub invariant-loop-event : goal.invariant-loop-event
 invariant-loop-event l =
-    (length l.marks ≡ length l.initial.marks) × (length l.next ≡ length l.initial.next) × (length l.vars ≡ length l.initial.vars) × (length l.queue ≡ length l.initial.queue)
+    (length l.marks ≡ length l.initial.marks) × (length l.next ≡ length l.initial.next)
+    × (length l.vars ≡ length l.initial.vars) × (length l.queue ≡ length l.initial.queue)
     × (l.outputs ≡ l.initial.outputs)
-    × Before l.initial.outputs l.first l.lent (macrostep (flat_view l.t).events (pairs_for (length l.initial.outputs)) (flat_machine (flat_view l.t)) l.event.0
-    (take (length l.initial.next) l.state) (drop (length l.initial.next) l.state))
+    × Before l.initial.outputs l.first l.lent (macrostep (flat_view l.t).events (pairs_for (length l.initial.outputs)) (flat_machine (flat_view l.t))
+    l.event.0 (take (length l.initial.next) l.state) (drop (length l.initial.next) l.state))
 
 abbrev pub decreases-loop-event : goal.decreases-loop-event
 decreases-loop-event l =

@@ -1,6 +1,5 @@
 -- `flat_microstep::ask` meets its contract: the rules of the trigger before `until` are asked for, and k is the next. Assumes nothing.
 use borrow.Author.Rules.{rules}
-use Prim.Native.Nat.{◌-◌}
 use native.Mathlib.Nat.{le_refl}
 use mathlib.Core.Path.{refl}
 use native.Mathlib.Omega.{arith}
@@ -54,13 +53,16 @@ returns c =
     let l = c.loop-k in
     let rules = c.head-rules.ensures.is in
     let next = l.invariant.2 in
-    record { reaches = record {
+    record {
+      reaches = record {
         first = c.requires.2;
         order = l.invariant.0;
         inside = omega (arith, rules, next.from, next.up_to);
         after = λ j h m. next.skipped j h (omega (arith, rules, c.loop-k-test.false, m));
-      }; asked = λ j m. asked_all (flat_view s.t.now) s.e _ l.until l.k next l.marks c.loop-k-test.false l.invariant.3 j
-          (omega (arith, rules, m)) }
+      };
+      asked = λ j m. asked_all (flat_view s.t.now) s.e _ l.until l.k next l.marks c.loop-k-test.false l.invariant.3 j
+          (omega (arith, rules, m));
+    }
 
 pub head-rules-requires : goal.head-rules-requires
 head-rules-requires c = search flat_needs

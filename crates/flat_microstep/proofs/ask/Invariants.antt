@@ -10,7 +10,8 @@ use Rattle.flat_microstep.proofs.ask.Given as goal
 
 abbrev pub invariant-loop-k : goal.invariant-loop-k
 invariant-loop-k l =
-    (l.from ≤ l.until) × (length l.marks ≡ length l.initial.marks) × Next (has? (flat_view l.t) l.e) l.until l.rules l.k × AskedBelow (flat_view l.t) l.e l.marks l.until
+    (l.from ≤ l.until) × (length l.marks ≡ length l.initial.marks)
+    × Next (has? (flat_view l.t) l.e) l.until l.rules l.k × AskedBelow (flat_view l.t) l.e l.marks l.until
 
 abbrev pub decreases-loop-k : goal.decreases-loop-k
 decreases-loop-k l = l.rules - l.k

@@ -1,11 +1,12 @@
 -- `flat_microstep::does_fire` meets its contract: it asks both guards. Assumes nothing.
 use Prim.Native.Nat.{ℕ, ◌+◌, ◌<◌}
 use native.Mathlib.Nat.{lt_trans}
+use mathlib.Core.Path.{◌≡◌}
+use mathlib.Core.List.{List}
 use lib.Dec.{lit<}
 use lib.ListN.{length}
-use mir.Syntax.{w64}
-use mir.Val.{Fits}
-use Rattle.flat.specs.View.{flat_view}
+use Rattle.flat.specs.View.{flat_view, rule_at}
+use Rattle.flat_rules.specs.Rules.{FlatRules}
 use Rattle.flat_rules.proofs.Readable.{flat_readable}
 use Rattle.marks.specs.Bits.{marked}
 use Rattle.flat_microstep.proofs.Inside.{rule_word, rule_in_lem, first_fits, second_fits}
@@ -13,11 +14,9 @@ use Rattle.flat_microstep.proofs.Firing.{not_first, then_second}
 use Rattle.flat_microstep.proofs.does_fire.Goals as goal
 
 -- the rule has six words, and where they are is a number of the machine
-in_rule : (c : goal.Start) (i : ℕ) → i < 6 → c.args.at + i < length c.args.t.now
-in_rule c i l = rule_in_lem c.args.t.now (flat_readable c.requires.0) c.args.k c.requires.1 c.args.at i c.requires.2 l
-
-fits : (c : goal.Start) (i : ℕ) → i < 6 → Fits w64 (c.args.at + i)
-fits c i l = record { fits = lt_trans (in_rule c i l) c.well_formed.0.0 }
+in_rule : (t : List ℕ) → FlatRules t → (k at : ℕ) → k < (flat_view t).rules → at ≡ rule_at t k
+    → (i : ℕ) → i < 6 → at + i < length t
+in_rule t g k at h is i l = rule_in_lem t (flat_readable g) k h at i is l
 
 pub has-requires : goal.has-requires
 has-requires c =
@@ -48,13 +47,17 @@ returns c =
     has.result c.has-2.result has.ensures c.if-not-has.false c.has-2.ensures
 
 pub overflow_add-at : goal.overflow_add-at
-overflow_add-at c = fits c.before.before 1 (lit< tt)
+overflow_add-at c =
+    let inside = in_rule c.args.t.now c.requires.0 c.args.k _ c.requires.1 c.requires.2 1 (lit< tt) in
+    record { fits = lt_trans inside c.well_formed.0.0 }
 
 pub number_in-requires : goal.number_in-requires
-number_in-requires c = in_rule c.before.before 1 (lit< tt)
+number_in-requires c = in_rule c.args.t.now c.requires.0 c.args.k _ c.requires.1 c.requires.2 1 (lit< tt)
 
 pub overflow_add-at-2 : goal.overflow_add-at-2
-overflow_add-at-2 c = fits c.before.before.before.before.before 2 (lit< tt)
+overflow_add-at-2 c =
+    let inside = in_rule c.args.t.now c.requires.0 c.args.k _ c.requires.1 c.requires.2 2 (lit< tt) in
+    record { fits = lt_trans inside c.well_formed.0.0 }
 
 pub number_in-requires-2 : goal.number_in-requires-2
-number_in-requires-2 c = in_rule c.before.before.before.before.before 2 (lit< tt)
+number_in-requires-2 c = in_rule c.args.t.now c.requires.0 c.args.k _ c.requires.1 c.requires.2 2 (lit< tt)

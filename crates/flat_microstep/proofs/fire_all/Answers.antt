@@ -1,5 +1,4 @@
 -- `flat_microstep::fire_all` meets its contract: the rules before k have fired, and k has the trigger. Assumes nothing.
-use Prim.Native.Nat.{◌-◌}
 use mathlib.Core.Path.{◌≡◌, refl, sym, ap, ap₂, ◌∙◌}
 use mathlib.Core.List.{List}
 use native.Mathlib.Omega.{arith}

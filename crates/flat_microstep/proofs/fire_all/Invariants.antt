@@ -13,9 +13,11 @@ use Rattle.flat_microstep.proofs.fire_all.Given as goal
 
 abbrev pub invariant-loop-k : goal.invariant-loop-k
 invariant-loop-k l =
-    (l.k ≤ l.until) × (length l.next ≡ length l.initial.next) × (length l.vars ≡ length l.initial.vars) × (length l.outs ≡ length l.initial.outs)
+    (l.k ≤ l.until) × (length l.next ≡ length l.initial.next)
+    × (length l.vars ≡ length l.initial.vars) × (length l.outs ≡ length l.initial.outs)
     × (length l.queue ≡ length l.initial.queue) × (l.k < l.until → has? (flat_view l.t) l.e l.k ≡ true)
-    × (going l.m l.next l.vars l.outs l.queue ≡ do_steps l.pairs (join_up (fires_with (flat_view l.t) l.e (marked l.marks)) l.k) (going l.initial.m l.initial.next l.initial.vars l.initial.outs l.initial.queue))
+    × (going l.m l.next l.vars l.outs l.queue ≡ do_steps l.pairs (join_up (fires_with (flat_view l.t) l.e (marked l.marks)) l.k)
+    (going l.initial.m l.initial.next l.initial.vars l.initial.outs l.initial.queue))
 
 abbrev pub decreases-loop-k : goal.decreases-loop-k
 decreases-loop-k l = l.until - l.k

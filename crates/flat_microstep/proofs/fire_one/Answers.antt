@@ -1,5 +1,4 @@
 -- `flat_microstep::fire_one` meets its contract: what it returns is what its callees say. Assumes nothing.
-use borrow.Author.Tests.{not-true, not-false}
 use Prim.Native.Nat.{ℕ, ◌+◌}
 use native.Mathlib.Nat.{lt_trans}
 use lib.Dec.{lit<}
@@ -44,21 +43,21 @@ returns c =
 
 pub rule_at-at-requires : goal.rule_at-at-requires
 rule_at-at-requires c = (
-      flat_readable c.requires.0,
-      c.requires.1,
-    )
+  flat_readable c.requires.0,
+  c.requires.1,
+)
 
 pub does_fire-requires : goal.does_fire-requires
 does_fire-requires c = (
-      c.requires.0,
-      c.requires.1,
-      c.rule_at-at.ensures.is,
-      c.requires.2,
-    )
+  c.requires.0,
+  c.requires.1,
+  c.rule_at-at.ensures.is,
+  c.requires.2,
+)
 
 pub aim-requires : goal.aim-requires
 aim-requires c = (
-      c.requires.0,
-      c.requires.1,
-      c.rule_at-at.ensures.is,
-    )
+  c.requires.0,
+  c.requires.1,
+  c.rule_at-at.ensures.is,
+)

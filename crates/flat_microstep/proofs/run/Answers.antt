@@ -61,10 +61,10 @@ head-requires c = (flat_readable c.requires.0, lit< tt)
 
 pub seek-from-requires : goal.seek-from-requires
 seek-from-requires c = (
-      flat_readable c.requires.0,
-      zero-le,
-      le_of_eq c.head.ensures.is,
-    )
+  flat_readable c.requires.0,
+  zero-le,
+  le_of_eq c.head.ensures.is,
+)
 
 pub clear-requires : goal.clear-requires
 clear-requires c = (zero-le, zero-le)

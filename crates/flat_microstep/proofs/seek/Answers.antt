@@ -1,19 +1,19 @@
 -- `flat_microstep::seek` meets its contract: the rules from k up to j are passed over. Assumes nothing.
-use Prim.Native.Nat.{ℕ, ◌+◌, ◌*◌, ◌-◌, ◌≤◌}
+use Prim.Native.Nat.{ℕ, ◌+◌, ◌*◌, ◌^◌, ◌<◌, ◌≤◌}
 use native.Mathlib.Nat.{le_refl, le_trans}
 use mathlib.Core.Path.{◌≡◌, sym, ap, ◌∙◌}
-use mathlib.Core.Bool.{false}
 use native.Mathlib.Omega.{arith}
+use mathlib.Core.List.{List}
 use lib.Dec.{lit<, lit≤}
+use lib.ListN.{length}
 use mir.Syntax.{w64}
 use mir.Val.{Fits}
 use Rattle.words.proofs.Counting.{less_left}
-use Rattle.flat.specs.View.{flat_view}
+use Rattle.flat.specs.View.{flat_view, rule_at}
+use Rattle.flat.specs.Readable.{FlatReadable}
 use Rattle.flat_microstep.specs.Stretch.{has?}
 use Rattle.flat_microstep.proofs.Inside.{number_fits, words_fit, begin_fits, place_fits}
 use Rattle.flat_microstep.proofs.Seeking.{
-use Rattle.flat_microstep.proofs.seek.Goals as goal
-
   skip_one,
   skip_two,
   skip_three,
@@ -27,8 +27,7 @@ use Rattle.flat_microstep.proofs.seek.Goals as goal
   rule_there,
   rules_there,
 }
-use Rattle.flat_microstep.proofs.seek.Statement.{statement}
-use Rattle.flat_microstep.proofs.seek.Tie as tie
+use Rattle.flat_microstep.proofs.seek.Goals as goal
 
 pub overflow_mul-at : goal.overflow_mul-at
 overflow_mul-at c =
@@ -46,16 +45,13 @@ loop-j-init c =
     (le_refl c.args.k, c.requires.1, place, λ i h l. absurd (omega arith))
 
 -- in a turn from rule j on, the numbers and the places of rules are numbers of the machine
-number : (c : goal.At-loop-j invariant-loop decreases-loop invariant-loop decreases-loop) (i : ℕ) → i ≤ 4 → Fits w64 (c.loop.j + i)
-number c i l =
-    let p = c.before.before.before in
-    number_fits p.args.t.now p.requires.0 p.well-formed.0.1 c.loop.j (le_trans c.loop.invariant.1 p.requires.2) i l
+module _ (t : List ℕ) (can : FlatReadable t) (long : length t * 2 < 2 ^ 63) (n j : ℕ)
+    (inside : n ≤ (flat_view t).rules) (l : j ≤ n) where
+  number : (i : ℕ) → i ≤ 4 → Fits w64 (j + i)
+  number i m = number_fits t can long j (le_trans l inside) i m
 
-place : (c : goal.At-loop-j invariant-loop decreases-loop invariant-loop decreases-loop) (i : ℕ) → i ≤ 4 → Fits w64 (c.loop.at + 6 * i)
-place c i l =
-    let p = c.before.before.before in
-    let inside = le_trans c.loop.invariant.1 p.requires.2 in
-    place_fits p.args.t.now p.requires.0 p.well-formed.0.1 c.loop.j inside c.loop.at i l c.loop.invariant.2
+  place : (at : ℕ) → at ≡ rule_at t j → (i : ℕ) → i ≤ 4 → Fits w64 (at + 6 * i)
+  place at is i m = place_fits t can long j (le_trans l inside) at i m is
 
 pub is_for-requires : goal.is_for-requires
 is_for-requires c =
@@ -86,24 +82,6 @@ is_for-requires-in-loop-j-2-2 c =
     let l = c.loop-j-2 in
     rule_there c.args.t.now c.requires.0 c.args.n l.j l.at c.requires.2 l.invariant.2 c.loop-j-2-test.true
 
--- rules that are passed over have another trigger
-first_not : (c : goal.Else-is_for invariant-loop decreases-loop invariant-loop decreases-loop) → has?
-    (flat_view c.before.before.before.before.before.before.args.t.now)
-    c.before.before.before.before.before.before.args.e c.before.before.before.loop.j ≡ false
-first_not c = sym c.before.is-for.ensures ∙ c.if1.false
-
-second_not : (c : goal.Else-is_for-2 invariant-loop decreases-loop invariant-loop decreases-loop) → has?
-    (flat_view c.before.before.before.before.before.before.before.before.args.t.now)
-    c.before.before.before.before.before.before.before.before.args.e
-    (c.before.before.before.before.before.loop.j + 1) ≡ false
-second_not c = sym c.before.is-for2.ensures ∙ c.if2.false
-
-third_not : (c : goal.Else-is_for-3 invariant-loop decreases-loop invariant-loop decreases-loop) → has?
-    (flat_view c.before.before.before.before.before.before.before.before.before.before.args.t.now)
-    c.before.before.before.before.before.before.before.before.before.before.args.e
-    (c.before.before.before.before.before.before.before.loop.j + 2) ≡ false
-third_not c = sym c.before.is-for3.ensures ∙ c.if3.false
-
 pub returns-then-is_for : goal.returns-then-is_for
 returns-then-is_for c =
     let l = c.loop-j in
@@ -118,7 +96,8 @@ returns-then-is_for-2 c =
     let s = c.args in
     let p = has? (flat_view s.t.now) s.e in
     found_in_turn p s.k s.n l.j 1 l.invariant.0 c.loop-j-test.true (lit≤ tt)
-    (skip_one p s.k l.j l.invariant.3 (first_not c.before.before)) (sym c.is_for-in-loop-j.ensures ∙ c.if-is_for-2.true)
+    (skip_one p s.k l.j l.invariant.3 (sym c.is_for.ensures ∙ c.if-is_for.false))
+    (sym c.is_for-in-loop-j.ensures ∙ c.if-is_for-2.true)
 
 pub returns-then-is_for-3 : goal.returns-then-is_for-3
 returns-then-is_for-3 c =
@@ -126,7 +105,9 @@ returns-then-is_for-3 c =
     let s = c.args in
     let p = has? (flat_view s.t.now) s.e in
     found_in_turn p s.k s.n l.j 2 l.invariant.0 c.loop-j-test.true (lit≤ tt)
-    (skip_two p s.k l.j l.invariant.3 (first_not c.before.before.before.before) (second_not c.before.before)) (sym c.is_for-in-loop-j-2.ensures ∙ c.if-is_for-3.true)
+    (skip_two p s.k l.j l.invariant.3 (sym c.is_for.ensures ∙ c.if-is_for.false)
+    (sym c.is_for-in-loop-j.ensures ∙ c.if-is_for-2.false))
+    (sym c.is_for-in-loop-j-2.ensures ∙ c.if-is_for-3.true)
 
 pub returns-then-is_for-4 : goal.returns-then-is_for-4
 returns-then-is_for-4 c =
@@ -135,7 +116,8 @@ returns-then-is_for-4 c =
     let p = has? (flat_view s.t.now) s.e in
     found_in_turn p s.k s.n l.j 3 l.invariant.0
     c.loop-j-test.true (lit≤ tt)
-    (skip_three p s.k l.j l.invariant.3 (first_not c.before.before.before.before.before.before) (second_not c.before.before.before.before) (third_not c.before.before))
+    (skip_three p s.k l.j l.invariant.3 (sym c.is_for.ensures ∙ c.if-is_for.false)
+    (sym c.is_for-in-loop-j.ensures ∙ c.if-is_for-2.false) (sym c.is_for-in-loop-j-2.ensures ∙ c.if-is_for-3.false))
     (sym c.is_for-in-loop-j-3.ensures ∙ c.if-is_for-4.true)
 
 pub loop-j-preserved : goal.loop-j-preserved
@@ -144,7 +126,8 @@ loop-j-preserved c =
     let s = c.args in
     on_by_four s.t.now s.e s.k s.n l.j l.at l.invariant.0 l.invariant.2 l.invariant.3
     c.loop-j-test.true
-    (first_not c.before.before.before.before.before.before) (second_not c.before.before.before.before) (third_not c.before.before) (sym c.is_for-in-loop-j-3.ensures ∙ c.if-is_for-4.false)
+    (sym c.is_for.ensures ∙ c.if-is_for.false) (sym c.is_for-in-loop-j.ensures ∙ c.if-is_for-2.false)
+    (sym c.is_for-in-loop-j-2.ensures ∙ c.if-is_for-3.false) (sym c.is_for-in-loop-j-3.ensures ∙ c.if-is_for-4.false)
 
 pub returns-then-is_for-5 : goal.returns-then-is_for-5
 returns-then-is_for-5 c =
@@ -180,40 +163,64 @@ pub head-requires : goal.head-requires
 head-requires c = (c.requires.0, lit< tt)
 
 pub overflow_add-j : goal.overflow_add-j
-overflow_add-j c = number c 3 (lit≤ tt)
+overflow_add-j c =
+    let s = c.args in
+    number s.t.now c.requires.0 c.well_formed.0.1 s.n _ c.requires.2 c.loop-j.invariant.1 3 (lit≤ tt)
 
 pub overflow_add-j-in-loop-j : goal.overflow_add-j-in-loop-j
-overflow_add-j-in-loop-j c = number c.before.before.before 1 (lit≤ tt)
+overflow_add-j-in-loop-j c =
+    let s = c.args in
+    number s.t.now c.requires.0 c.well_formed.0.1 s.n _ c.requires.2 c.loop-j.invariant.1 1 (lit≤ tt)
 
 pub overflow_add-at-in-loop-j : goal.overflow_add-at-in-loop-j
-overflow_add-at-in-loop-j c = place c.before.before.before 1 (lit≤ tt)
+overflow_add-at-in-loop-j c =
+    let s = c.args in
+    place s.t.now c.requires.0 c.well_formed.0.1 s.n _ c.requires.2 c.loop-j.invariant.1 _ c.loop-j.invariant.2 1 (lit≤ tt)
 
 pub overflow_add-result : goal.overflow_add-result
-overflow_add-result c = number c.before.before.before.before.before 1 (lit≤ tt)
+overflow_add-result c =
+    let s = c.args in
+    number s.t.now c.requires.0 c.well_formed.0.1 s.n _ c.requires.2 c.loop-j.invariant.1 1 (lit≤ tt)
 
 pub overflow_add-j-in-loop-j-2 : goal.overflow_add-j-in-loop-j-2
-overflow_add-j-in-loop-j-2 c = number c.before.before.before.before.before 2 (lit≤ tt)
+overflow_add-j-in-loop-j-2 c =
+    let s = c.args in
+    number s.t.now c.requires.0 c.well_formed.0.1 s.n _ c.requires.2 c.loop-j.invariant.1 2 (lit≤ tt)
 
 pub overflow_add-at-in-loop-j-2 : goal.overflow_add-at-in-loop-j-2
-overflow_add-at-in-loop-j-2 c = place c.before.before.before.before.before 2 (lit≤ tt)
+overflow_add-at-in-loop-j-2 c =
+    let s = c.args in
+    place s.t.now c.requires.0 c.well_formed.0.1 s.n _ c.requires.2 c.loop-j.invariant.1 _ c.loop-j.invariant.2 2 (lit≤ tt)
 
 pub overflow_add-result-then-is_for-3 : goal.overflow_add-result-then-is_for-3
-overflow_add-result-then-is_for-3 c = number c.before.before.before.before.before.before.before 2 (lit≤ tt)
+overflow_add-result-then-is_for-3 c =
+    let s = c.args in
+    number s.t.now c.requires.0 c.well_formed.0.1 s.n _ c.requires.2 c.loop-j.invariant.1 2 (lit≤ tt)
 
 pub overflow_add-j-in-loop-j-3 : goal.overflow_add-j-in-loop-j-3
-overflow_add-j-in-loop-j-3 c = number c.before.before.before.before.before.before.before 3 (lit≤ tt)
+overflow_add-j-in-loop-j-3 c =
+    let s = c.args in
+    number s.t.now c.requires.0 c.well_formed.0.1 s.n _ c.requires.2 c.loop-j.invariant.1 3 (lit≤ tt)
 
 pub overflow_add-at-in-loop-j-3 : goal.overflow_add-at-in-loop-j-3
-overflow_add-at-in-loop-j-3 c = place c.before.before.before.before.before.before.before 3 (lit≤ tt)
+overflow_add-at-in-loop-j-3 c =
+    let s = c.args in
+    place s.t.now c.requires.0 c.well_formed.0.1 s.n _ c.requires.2 c.loop-j.invariant.1 _ c.loop-j.invariant.2 3 (lit≤ tt)
 
 pub overflow_add-result-then-is_for-4 : goal.overflow_add-result-then-is_for-4
-overflow_add-result-then-is_for-4 c = number c.before.before.before.before.before.before.before.before.before 3 (lit≤ tt)
+overflow_add-result-then-is_for-4 c =
+    let s = c.args in
+    number s.t.now c.requires.0 c.well_formed.0.1 s.n _ c.requires.2 c.loop-j.invariant.1 3 (lit≤ tt)
 
 pub overflow_add-j-in-loop-j-4 : goal.overflow_add-j-in-loop-j-4
-overflow_add-j-in-loop-j-4 c = number c.before.before.before.before.before.before.before.before.before 4 (lit≤ tt)
+overflow_add-j-in-loop-j-4 c =
+    let s = c.args in
+    number s.t.now c.requires.0 c.well_formed.0.1 s.n _ c.requires.2 c.loop-j.invariant.1 4 (lit≤ tt)
 
 pub overflow_add-at-in-loop-j-4 : goal.overflow_add-at-in-loop-j-4
-overflow_add-at-in-loop-j-4 c = place c.before.before.before.before.before.before.before.before.before 4 (lit≤ tt)
+overflow_add-at-in-loop-j-4 c =
+    let s = c.args in
+    place s.t.now c.requires.0 c.well_formed.0.1 s.n _ c.requires.2 c.loop-j.invariant.1 _ c.loop-j.invariant.2 4 (lit≤ tt)
 
 pub loop-j-smaller : goal.loop-j-smaller
 loop-j-smaller c = four_less c.args.n

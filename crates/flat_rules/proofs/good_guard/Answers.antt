@@ -1,64 +1,55 @@
 -- `flat_rules::good_guard` meets its contract: each literal passed is good. Assumes nothing.
-use borrow.Author.Tests.{not-true, not-false}
-use Prim.Native.Nat.{ℕ, ◌+◌, ◌-◌, zero-le}
+use Prim.Native.Nat.{ℕ, ◌+◌, zero-le}
 use native.Mathlib.Nat.{le_antisymm, lt_trans}
 use mathlib.Core.Path.{◌≡◌, refl, sym, ap, ◌∙◌}
-use mathlib.Core.Bool.{true}
+use mathlib.Core.Bool.{Bool}
+use mathlib.Core.List.{List}
 use lib.ListN.{get_or}
 use Rattle.words.proofs.Counting.{next_in, less_left, next_fits, first_of_two}
 use Rattle.words.specs.Loops.{all_below}
 use Rattle.words.proofs.Loops.{all_below_next, all_below_no}
-use Rattle.flat.specs.View.{flat_view}
+use Rattle.flat.specs.View.{Flat, flat_view, guard_at}
 use Rattle.flat_rules.specs.Tests.{flat_literal_kept, good_guard?}
 use Rattle.flat_rules.proofs.Read.{in_span, place_fits}
 use Rattle.flat_rules.proofs.good_guard.Invariants.{held?}
 use Rattle.flat_rules.proofs.good_guard.Goals as goal
 
 -- the guard's two words, where they are read
-first_read : (c : goal.After-number_in-first invariant-loop decreases-loop) → c.number_in.result ≡ ((flat_view
-    c.before.before.before.args.t.now).asks c.before.before.before.args.k).first
-first_read c =
-    c.number_in.ensures.0 ∙ ap (λ (x : ℕ). get_or c.before.before.before.args.t.now x 0) c.before.guard-at.ensures.0
+first_read : (t : List ℕ) (k at w : ℕ) → at ≡ guard_at t k → w ≡ get_or t at 0 → w ≡ ((flat_view t).asks k).first
+first_read t k at w found is = is ∙ ap (λ (x : ℕ). get_or t x 0) found
 
-count_read : (c : goal.After-number_in-count invariant-loop decreases-loop) → c.number-in2.result ≡ ((flat_view
-    c.before.before.before.before.args.t.now).asks c.before.before.before.before.args.k).count
-count_read c =
-    c.number-in2.ensures.0 ∙ ap (λ (x : ℕ). get_or c.before.before.before.before.args.t.now (x + 1) 0)
-    c.before.before.guard-at.ensures.0
+count_read : (t : List ℕ) (k at w : ℕ) → at ≡ guard_at t k → w ≡ get_or t (at + 1) 0 → w ≡ ((flat_view t).asks k).count
+count_read t k at w found is = is ∙ ap (λ (x : ℕ). get_or t (x + 1) 0) found
 
 pub good_literal-requires : goal.good_literal-requires
 good_literal-requires c =
-    let p = c.before.before.before.before.before.before in (
-      c.requires.0,
-      in_span _ _ _ _ _ _ (first_read c.before.before.before) (count_read c.before.before) c.requires.2
-          c.loop-i-test.true,
-    )
+    let t = c.args.t.now in
+    let first = first_read t c.args.k _ _ c.guard_at-at.ensures.is c.number_in-first.ensures.is in
+    let count = count_read t c.args.k _ _ c.guard_at-at.ensures.is c.number_in-count.ensures.is in
+    (c.requires.0, in_span _ _ _ _ _ _ first count c.requires.2 c.loop-i-test.true)
 
 -- what is told of the literal at i
-told : (c : goal.After-good_literal invariant-loop decreases-loop)
-    → c.good-literal.result ≡ held? (flat_view c.before.before.before.before.before.before.before.args.t.now)
-    c.before.before.before.before.before.before.before.args.k c.before.before.loop.i
-told c =
-    let s = c.before.before.before.before.before.before.before.args in
-    let f = flat_view s.t.now in
-    c.good-literal.ensures ∙ ap (λ (x : ℕ). flat_literal_kept f s.k (x + c.before.before.loop.i))
-    (first_read c.before.before.before.before)
+told : (f : Flat) (k i first : ℕ) (x : Bool)
+    → x ≡ flat_literal_kept f k (first + i) → first ≡ (f.asks k).first → x ≡ held? f k i
+told f k i first x is read = is ∙ ap (λ (y : ℕ). flat_literal_kept f k (y + i)) read
 
 pub returns-then-not-good_literal : goal.returns-then-not-good_literal
 unfolding good_guard?
 returns-then-not-good_literal c =
     let s = c.args in
     let f = flat_view s.t.now in
-    let fails = sym (told c.before) ∙ c.if-not-good_literal.true in
-    sym (ap (all_below (held? f s.k)) (sym (count_read c.before.before.before.before))
-    ∙ all_below_no (held? f s.k) _ c.loop-i.i c.loop-i-test.true fails)
+    let first = first_read s.t.now s.k _ _ c.guard_at-at.ensures.is c.number_in-first.ensures.is in
+    let count = count_read s.t.now s.k _ _ c.guard_at-at.ensures.is c.number_in-count.ensures.is in
+    let fails = sym (told f s.k c.loop-i.i _ _ c.good_literal.ensures first) ∙ c.if-not-good_literal.true in
+    sym (ap (all_below (held? f s.k)) (sym count) ∙ all_below_no (held? f s.k) _ c.loop-i.i c.loop-i-test.true fails)
 
 pub loop-i-preserved : goal.loop-i-preserved
 loop-i-preserved c =
     let s = c.args in
     let f = flat_view s.t.now in
     let l = c.loop-i in
-    let holds = sym (told c.before) ∙ c.if-not-good_literal.false in
+    let first = first_read s.t.now s.k _ _ c.guard_at-at.ensures.is c.number_in-first.ensures.is in
+    let holds = sym (told f s.k l.i _ _ c.good_literal.ensures first) ∙ c.if-not-good_literal.false in
     (next_in _ _ c.loop-i-test.true, all_below_next (held? f s.k) l.i l.invariant.1 holds)
 
 pub returns : goal.returns
@@ -66,7 +57,8 @@ unfolding good_guard?
 returns c =
     let s = c.args in
     let f = flat_view s.t.now in
-    let end = le_antisymm c.loop-i.invariant.0 c.loop-i-test.false ∙ count_read c.before.before in
+    let count = count_read s.t.now s.k _ _ c.guard_at-at.ensures.is c.number_in-count.ensures.is in
+    let end = le_antisymm c.loop-i.invariant.0 c.loop-i-test.false ∙ count in
     sym (ap (all_below (held? f s.k)) (sym end) ∙ c.loop-i.invariant.1)
 
 pub guard_at-at-requires : goal.guard_at-at-requires
