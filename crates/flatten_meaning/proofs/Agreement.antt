@@ -195,8 +195,11 @@ module _ {t : List ℕ} (r : ChartRules t) where
       → (calls : List Call) → Agreeing t (encode (flattened (view t))) state flat-state calls
   agree_from state flat-state agreed [] = tt
   agree_from state flat-state agreed (call ∷ calls) =
-      let now = one_call state flat-state agreed call.event call.lent in
-      (now.0, agree_from _ _ now.1 calls)
+      let now = one_call state flat-state agreed call.event call.lent in (
+        now.0,
+        agree_from (run_chart t state call.event call.lent).state
+            (run_flat (encode (flattened (view t))) flat-state call.event call.lent).state now.1 calls,
+      )
 
   pub agree_from_start : AgreeFromStart t (encode (flattened (view t)))
   agree_from_start = agree_from _ _ agreed_start

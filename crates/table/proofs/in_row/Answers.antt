@@ -1,5 +1,4 @@
 -- `table::in_row` meets its contract: what it returns is what its callees say. Assumes nothing.
-use borrow.Author.Tests.{not-true, not-false}
 use mathlib.Core.Path.{sym, ◌∙◌}
 use Rattle.table.proofs.in_row.Goals as goal
 
