@@ -12,7 +12,7 @@ use Rattle.flatten.proofs.lay_table.Goals as goal
 
 pub taken_numbers-first-requires : goal.taken_numbers-first-requires
 taken_numbers-first-requires c =
-    (c.requires, c.active_numbers-guards.ensures.few.1, c.active_numbers-guards.ensures.is, le_refl 48)
+    (c.requires, c.active_numbers-guards.ensures.numbers, c.active_numbers-guards.ensures.is, le_refl 48)
 
 pub sizes_of-sizes-requires : goal.sizes_of-sizes-requires
 sizes_of-sizes-requires c =
@@ -20,9 +20,9 @@ sizes_of-sizes-requires c =
       c.requires,
       record {
         asked_are = c.asked_set-asked.ensures;
-        ands_are = c.and_ranks-states.ensures.few.1;
-        actives_are = c.active_numbers-guards.ensures.few.1;
-        takens_are = c.taken_numbers-first.ensures.few.1;
+        ands_are = c.and_ranks-states.ensures.ranks;
+        actives_are = c.active_numbers-guards.ensures.numbers;
+        takens_are = c.taken_numbers-first.ensures.numbers;
         first_is = c.taken_numbers-first.ensures.is ∙ sym (entered_first (view c.args.t.now));
       },
       c.or_ranks-machines.ensures.is,
@@ -31,7 +31,7 @@ sizes_of-sizes-requires c =
 
 pub lay_heading-at-requires : goal.lay_heading-at-requires
 lay_heading-at-requires c =
-    (c.requires, c.or_ranks-machines.ensures.few.1, c.and_ranks-states.ensures.few.1, c.sizes_of-sizes.ensures)
+    (c.requires, c.or_ranks-machines.ensures.ranks, c.and_ranks-states.ensures.ranks, c.sizes_of-sizes.ensures)
 
 pub lay_sections-requires : goal.lay_sections-requires
 lay_sections-requires c =
@@ -39,9 +39,9 @@ lay_sections-requires c =
       c.requires,
       record {
         asked_are = c.asked_set-asked.ensures;
-        ands_are = c.and_ranks-states.ensures.few.1;
-        actives_are = c.active_numbers-guards.ensures.few.1;
-        takens_are = c.taken_numbers-first.ensures.few.1;
+        ands_are = c.and_ranks-states.ensures.ranks;
+        actives_are = c.active_numbers-guards.ensures.numbers;
+        takens_are = c.taken_numbers-first.ensures.numbers;
         first_is = c.taken_numbers-first.ensures.is ∙ sym (entered_first (view c.args.t.now));
       },
       heading_end c.requires c.lay_heading-at.ensures.next,

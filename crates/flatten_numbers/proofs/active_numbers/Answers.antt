@@ -14,4 +14,4 @@ returns c =
     let v = view s.t.now in
     let same = active_same v s.asked c.requires.1 in
     let made = c.number_states.ensures in
-    record { is = made.is ∙ same v.states (le_refl v.states); few = made.few.0; numbers = λ j h. made.few.1 j h ∙ same j (omega arith) }
+    record { is = made.is ∙ same v.states (le_refl v.states); few = made.few; numbers = λ j h. made.numbers j h ∙ same j (omega arith) }

@@ -5,4 +5,4 @@ use Rattle.flatten_numbers.proofs.and_ranks.Goals as goal
 
 pub returns : goal.returns
 unfolding and_rank and_states numbered?
-returns c = c.number_states.ensures
+returns c = let made = c.number_states.ensures in record { is = made.is; few = made.few; ranks = made.numbers }
