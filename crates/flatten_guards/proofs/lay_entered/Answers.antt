@@ -74,13 +74,11 @@ put_entered-requires c =
 
 pub returns : goal.returns
 returns c =
-    let start =
-    c.before.before.before.before.before.before.before.before.before.before.before.before.before in
-    let s = start.args in
+    let s = c.args in
     let v = view s.t.now in
     let has = c.has in
     let told : forks v s.k s.j ≡ true =
-    sym (start.pre.3 s.j start.pre.4) ∙ sym has.ensures
+    sym (c.requires.3 s.j c.requires.4) ∙ sym has.ensures
     ∙ c.if-not-has.false in
     let laid = c.put_entered.ensures in
     let end = c.behind.ensures in

@@ -27,17 +27,15 @@ entries_of-e-requires c =
 
 pub lay_forks-next-requires : goal.lay_forks-next-requires
 lay_forks-next-requires c =
-    let start =
-    c.before.before.before.before.before.before.before.before.before.before.before.before.before in
-    let few = start.pre.0.counts.transitions.1 in
+    let few = c.requires.0.counts.transitions.1 in
     let e = c.entries_of-e.ensures in
     let so_far = c.loop-k.invariant.2 in (
-      start.pre.0,
+      c.requires.0,
       omega arith,
       e.is.top_is,
       e.is.forks_are,
-      start.pre.1,
-      start.pre.2,
+      c.requires.1,
+      c.requires.2,
       e.numbers,
       omega arith,
       omega arith,

@@ -41,7 +41,7 @@ returns c =
     let grandparent = c.state_word.ensures.is ∙ ap v.parent o in
     let g = c.word-2.ensures
     ∙ ap (λ (i : ℕ). get_or c.args.actives.now i 0) grandparent ∙ named in
-    record { told = active_inner v j a inner g current.0 c.put_holds.ensures.told; few = omega arith }
+    record { told = active_inner v j a inner g current.told c.put_holds.ensures.told; few = omega arith }
 
 pub state_word-o-requires : goal.state_word-o-requires
 state_word-o-requires c = search chart_needs

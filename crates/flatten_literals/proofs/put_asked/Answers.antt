@@ -70,8 +70,11 @@ returns c =
     let few = (c.requires.0.transition_spans k c.requires.1).few_literals in
     let first = c.transition_word-first.ensures.is in
     let all : l.i ≡ (v.asks k).count = omega arith in
-    record { told = subst (λ (ls : List FlatLiteral). Told c.args.at ls c.args.room.now l.next l.room)
-          (ap₂ (flats v) first all) l.invariant.2; few = omega arith }
+    record {
+      told = subst (λ (ls : List FlatLiteral). Told c.args.at ls c.args.room.now l.next l.room)
+          (ap₂ (flats v) first all) l.invariant.2;
+      few = omega arith;
+    }
 
 pub transition_word-first-requires : goal.transition_word-first-requires
 transition_word-first-requires c = search chart_needs

@@ -16,16 +16,14 @@ above_number-up-requires c =
 
 pub returns-then-up-taken : goal.returns-then-up-taken
 returns-then-up-taken c =
-    let start =
-    c.before.before.before.before.before.before.before.before.before.before.before.before.before in
-    let s = start.args in
+    let s = c.args in
     let v = view s.t.now in
-    let a = c.word.ensures ∙ start.pre.5 s.j start.pre.2 in
+    let a = c.word.ensures ∙ c.requires.5 s.j c.requires.2 in
     let taken = c.number-taken.ensures.is
-    ∙ start.pre.6 s.k start.pre.1 in
+    ∙ c.requires.6 s.k c.requires.1 in
     let up =
-    above_read (tree start.pre.0) s.k s.j s.refers.now start.pre.2 start.pre.3 start.pre.7
-    start.pre.4 taken c.above_number-up.ensures.is in
+    above_read (tree c.requires.0) s.k s.j s.refers.now c.requires.2 c.requires.3 c.requires.7
+    c.requires.4 taken c.above_number-up.ensures.is in
     let sure = c.if-up-taken.true ∙ taken in
     record { told = entered_sure v s.k s.j a up sure c.put_current.ensures.told; few = omega arith }
 

@@ -41,8 +41,7 @@ returns c =
     let has = c.has in
     let told : comes v s.k s.j ≡ true =
     sym (c.requires.2 s.j c.requires.3) ∙ sym has.ensures
-    ∙ not-false has.result
-    c.if-not-has.false in
+    ∙ c.if-not-has.false in
     let taken = c.requires.5 s.k c.requires.1 in
     let refer = c.requires.6 s.j c.requires.3 in
     let from = c.state_at.ensures.is in
