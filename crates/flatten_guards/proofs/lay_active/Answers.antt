@@ -38,8 +38,11 @@ returns-then-spans c =
     ∙ c.if-not-has.false in
     let counted = c.put_active-end.ensures in
     let size = c.put_size.ensures in
-    record { guards = rw (told, c.if-spans.true)
-          (penned_span (active_literals v s.j) counted.told size.pen size.room); few = within_step s.pen 6 2 size.pen (omega arith) (omega (arith, counted.few)) }
+    record {
+      guards = rw (told, c.if-spans.true)
+          (penned_span (active_literals v s.j) counted.told size.pen size.room);
+      few = within_step s.pen 6 2 size.pen (omega arith) (omega (arith, counted.few));
+    }
 
 pub put_active-requires : goal.put_active-requires
 put_active-requires c =
@@ -61,5 +64,8 @@ returns c =
     ∙ c.if-not-has.false in
     let laid = c.put_active.ensures in
     let end = c.behind.ensures in
-    record { guards = rw (told, c.if-spans.false)
-          (penned_literals (active_literals v s.j) laid.told end); few = within_step s.pen 6 2 end laid.few (omega (arith, laid.few)) }
+    record {
+      guards = rw (told, c.if-spans.false)
+          (penned_literals (active_literals v s.j) laid.told end);
+      few = within_step s.pen 6 2 end laid.few (omega (arith, laid.few));
+    }

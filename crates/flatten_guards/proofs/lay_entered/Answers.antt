@@ -49,8 +49,11 @@ returns-then-spans c =
     ∙ c.if-not-has.false in
     let counted = c.put_entered-end.ensures in
     let size = c.put_size.ensures in
-    record { guards = rw (told, c.if-spans.true)
-          (penned_span (entered_literals v s.k s.j) counted.told size.pen size.room); few = within_step s.pen 6 2 size.pen (omega arith) (omega (arith, counted.few)) }
+    record {
+      guards = rw (told, c.if-spans.true)
+          (penned_span (entered_literals v s.k s.j) counted.told size.pen size.room);
+      few = within_step s.pen 6 2 size.pen (omega arith) (omega (arith, counted.few));
+    }
 
 pub put_entered-requires : goal.put_entered-requires
 put_entered-requires c =
@@ -82,5 +85,8 @@ returns c =
     ∙ c.if-not-has.false in
     let laid = c.put_entered.ensures in
     let end = c.behind.ensures in
-    record { guards = rw (told, c.if-spans.false)
-          (penned_literals (entered_literals v s.k s.j) laid.told end); few = within_step s.pen 6 2 end laid.few (omega (arith, laid.few)) }
+    record {
+      guards = rw (told, c.if-spans.false)
+          (penned_literals (entered_literals v s.k s.j) laid.told end);
+      few = within_step s.pen 6 2 end laid.few (omega (arith, laid.few));
+    }

@@ -24,8 +24,11 @@ returns-then-spans c =
     ∙ c.if-is_bare.false in
     let counted = c.put_taken-end.ensures in
     let size = c.put_size.ensures in
-    record { guards = rw (told, c.if-spans.true)
-          (penned_span (taken_literals v s.k) counted.told size.pen size.room); few = within_step s.pen 171 57 size.pen (omega arith) (omega (arith, counted.few)) }
+    record {
+      guards = rw (told, c.if-spans.true)
+          (penned_span (taken_literals v s.k) counted.told size.pen size.room);
+      few = within_step s.pen 171 57 size.pen (omega arith) (omega (arith, counted.few));
+    }
 
 pub returns : goal.returns
 returns c =
@@ -36,8 +39,11 @@ returns c =
     ∙ c.if-is_bare.false in
     let laid = c.put_taken.ensures in
     let end = c.behind.ensures in
-    record { guards = rw (told, c.if-spans.false)
-          (penned_literals (taken_literals v s.k) laid.told end); few = within_step s.pen 171 57 end laid.few (omega (arith, laid.few)) }
+    record {
+      guards = rw (told, c.if-spans.false)
+          (penned_literals (taken_literals v s.k) laid.told end);
+      few = within_step s.pen 171 57 end laid.few (omega (arith, laid.few));
+    }
 
 pub put_taken-end-requires : goal.put_taken-end-requires
 put_taken-end-requires c =
