@@ -12,20 +12,14 @@ ghost use Rattle.capi.specs.Calls.{FlatCheckedForC, FlatStartedForC, FlatRanForC
 use reports::{chart_said, flat_said, flatten_said, tell, verdict_said};
 
 // Is this a chart table?
-#[unsafe(no_mangle)]
-pub extern "C" fn olivrescum_check_chart(chart: &[u16], report: &mut [u32]) -> u32
+pub fn olivrescum_check_chart(chart: &[u16], report: &mut [u32]) -> u32
     ensures { ChartCheckedForC chart.now report.old result report.new }
 {
     tell(verdict_said(olivrescum::check_chart(chart)), report)
 }
 
 // Writes the start state of a chart into `state`.
-#[unsafe(no_mangle)]
-pub extern "C" fn olivrescum_start_chart(
-    chart: &[u16],
-    state: &mut [u16],
-    report: &mut [u32],
-) -> u32
+pub fn olivrescum_start_chart(chart: &[u16], state: &mut [u16], report: &mut [u32]) -> u32
     ensures { ChartStartedForC chart.now state.old report.old result state.new report.new }
 {
     tell(verdict_said(olivrescum::start_chart(chart, state)), report)
@@ -33,8 +27,7 @@ pub extern "C" fn olivrescum_start_chart(
 
 // Runs one event on a chart to the end of its macrostep. `state` becomes the state after it; `outputs` gets two words for
 // each output: number and value.
-#[unsafe(no_mangle)]
-pub extern "C" fn olivrescum_run_chart(
+pub fn olivrescum_run_chart(
     chart: &[u16],
     state: &mut [u16],
     event: u32,
@@ -50,24 +43,21 @@ pub extern "C" fn olivrescum_run_chart(
 }
 
 // Writes a flat table of the chart into the front of `room`.
-#[unsafe(no_mangle)]
-pub extern "C" fn olivrescum_flatten(chart: &[u16], room: &mut [u16], report: &mut [u32]) -> u32
+pub fn olivrescum_flatten(chart: &[u16], room: &mut [u16], report: &mut [u32]) -> u32
     ensures { ChartFlattenedForC chart.now room.old report.old result room.new report.new }
 {
     tell(flatten_said(olivrescum::flatten(chart, room)), report)
 }
 
 // Is this a flat table?
-#[unsafe(no_mangle)]
-pub extern "C" fn olivrescum_check_flat(flat: &[u16], report: &mut [u32]) -> u32
+pub fn olivrescum_check_flat(flat: &[u16], report: &mut [u32]) -> u32
     ensures { FlatCheckedForC flat.now report.old result report.new }
 {
     tell(verdict_said(olivrescum::check_flat(flat)), report)
 }
 
 // Writes the start state of a flat table into `state`.
-#[unsafe(no_mangle)]
-pub extern "C" fn olivrescum_start_flat(flat: &[u16], state: &mut [u16], report: &mut [u32]) -> u32
+pub fn olivrescum_start_flat(flat: &[u16], state: &mut [u16], report: &mut [u32]) -> u32
     ensures { FlatStartedForC flat.now state.old report.old result state.new report.new }
 {
     tell(verdict_said(olivrescum::start_flat(flat, state)), report)
@@ -75,8 +65,7 @@ pub extern "C" fn olivrescum_start_flat(flat: &[u16], state: &mut [u16], report:
 
 // Runs one event on a flat table to the end of its macrostep. `state` becomes the state after it; `outputs` gets two words
 // for each output: number and value.
-#[unsafe(no_mangle)]
-pub extern "C" fn olivrescum_run_flat(
+pub fn olivrescum_run_flat(
     flat: &[u16],
     state: &mut [u16],
     event: u32,
