@@ -11,7 +11,7 @@ fn main() {
     let library = folder.join("libcapi.a");
     println!("cargo:rerun-if-changed={}", library.display());
     if !library.exists() {
-        eprintln!("The library is missing: run `rt staticlib capi` in the repository first.");
+        eprintln!("The library is missing: run `tools/build library` in the repository first.");
         std::process::exit(1);
     }
     println!("cargo:rustc-link-search=native={}", folder.display());
