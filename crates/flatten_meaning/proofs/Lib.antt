@@ -9,7 +9,7 @@
 -- `Taken`, `Entered` what its guards say; `Quiet`, `Steps` the microstep. From words that agree where the chart looks, the
 -- chart goes on alike: `Near`, `After`; and what history finds need not be stored: `Still`. `Lean`, `Lift` go from
 -- microsteps to a macrostep, for any two machines. `Agreeing` finds agreement by looking at words.
--- `Laws`, `Sums`, `Rows`, `Stores` and `Children` serve all of them.
+-- `Laws`, `Sums`, `Rows`, `Stores` and `Children` serve all of them. `Aid`: the aid chart flattened.
 pub mod Laws
 pub mod Sums
 pub mod Rows
@@ -41,3 +41,4 @@ pub mod Simulated
 pub mod Agreeing
 pub mod Agreement
 pub mod FlatTable
+pub mod Aid

@@ -1,21 +1,19 @@
--- The aid chart flattened, by computation: how large its table is and can be, and what it does on 01's seven events.
-use Rattle.std.specs.Prelude.{ℕ, ◌≡◌, refl, List, [], ◌∷◌, length, get_or}
-use Rattle.std.proofs.Common.{sym, ap, subst}
+-- The aid chart flattened: how large its table is and can be, and what it does on 01's seven events. proofs/Aid.antt proves it, by
+-- computation.
+use Rattle.std.specs.Prelude.{ℕ, ◌≡◌, List, [], ◌∷◌, length}
 use Rattle.chart.specs.View.{view}
 use Rattle.chart.specs.Aid.{aid}
 use Rattle.flat_meaning.specs.Calls.{FlatRan, start_flat, run_flat}
-use Rattle.flat_meaning.specs.Opened.{flat_opened}
 use Rattle.flatten_meaning.specs.Tables.{Table}
 use Rattle.flatten_meaning.specs.Flattened.{flattened}
 use Rattle.flatten_meaning.specs.Room.{guards_bound, literals_bound, rules_bound, room_needed}
-use Rattle.flatten_meaning.specs.Encoded.{all_literals, header, encode}
-use Rattle.flatten_meaning.specs.Opened.{flatten_opened}
+use Rattle.flatten_meaning.specs.Encoded.{all_literals, encode}
 
 abbrev pub flat_aid : Table
 flat_aid = flattened (view aid)
 
 -- Its words: the header; three machines; six states; nine guards; 18 literals; six items; 16 rules.
-abbrev flat_words : List ℕ
+abbrev pub flat_words : List ℕ
 flat_words =
     2 ∷ 213 ∷ 3 ∷ 6 ∷ 4 ∷ 1 ∷ 4 ∷ 1 ∷ 9 ∷ 18 ∷ 6 ∷ 16 ∷
     18 ∷ 21 ∷ 27 ∷ 45 ∷ 99 ∷ 117 ∷
@@ -30,25 +28,12 @@ flat_words =
     2 ∷ 2 ∷ 2 ∷ 4 ∷ 1 ∷ 3 ∷ 2 ∷ 3 ∷ 3 ∷ 5 ∷ 1 ∷ 65535 ∷ 2 ∷ 3 ∷ 3 ∷ 0 ∷ 0 ∷ 2 ∷ 3 ∷ 4 ∷ 4 ∷ 3 ∷ 1 ∷ 65535 ∷
     3 ∷ 4 ∷ 4 ∷ 0 ∷ 0 ∷ 5 ∷ 4 ∷ 6 ∷ 6 ∷ 4 ∷ 1 ∷ 3 ∷ 2 ∷ 7 ∷ 3 ∷ 5 ∷ 1 ∷ 65535 ∷ 2 ∷ 7 ∷ 7 ∷ 0 ∷ 0 ∷ 0 ∷ []
 
-words_are : encode flat_aid ≡ flat_words
-unfolding flatten_opened
-words_are = refl
-
 -- How large it is ..
 pub record Sizes : Type 0 where
   pub guards : length flat_aid.guards ≡ 9
   pub literals : length (all_literals flat_aid) ≡ 18
   pub rules : length flat_aid.rules ≡ 16
   pub words : length (encode flat_aid) ≡ 213
-
-pub sizes : Sizes
-unfolding header encode
-sizes = record {
-  guards = ap (λ (ws : List ℕ). get_or ws 8 0) words_are;
-  literals = ap (λ (ws : List ℕ). get_or ws 9 0) words_are;
-  rules = ap (λ (ws : List ℕ). get_or ws 11 0) words_are;
-  words = ap length words_are;
-}
 
 -- .. and can be. 01, The aid chart: "Its flat bounds are 62 guards, 146 literals, 104 rules, 1,231 words".
 pub record Bounds : Type 0 where
@@ -57,12 +42,8 @@ pub record Bounds : Type 0 where
   pub rules : rules_bound (view aid) ≡ 104
   pub words : room_needed (view aid) ≡ 1231
 
-pub bounds : Bounds
-unfolding flatten_opened
-bounds = record { guards = refl; literals = refl; rules = refl; words = refl }
-
 -- Room for four outputs.
-abbrev no_outputs : List ℕ
+abbrev pub no_outputs : List ℕ
 no_outputs = 0 ∷ 0 ∷ 0 ∷ 0 ∷ 0 ∷ 0 ∷ 0 ∷ 0 ∷ []
 
 -- An event that is done in `micro` microsteps.
@@ -94,19 +75,3 @@ pub record SevenEvents (flat : List ℕ) : Type 0 where
       ≡ done 1 4 2 (1 ∷ 3 ∷ 4 ∷ 40000 ∷ []) (1 ∷ 40000 ∷ 2 ∷ 0 ∷ 0 ∷ 0 ∷ 0 ∷ 0 ∷ [])
   pub seventh : run_flat flat (1 ∷ 3 ∷ 4 ∷ 40000 ∷ []) 2 no_outputs
       ≡ done 1 2 1 (1 ∷ 2 ∷ 4 ∷ 40000 ∷ []) (3 ∷ 0 ∷ 0 ∷ 0 ∷ 0 ∷ 0 ∷ 0 ∷ 0 ∷ [])
-
-seven_by_words : SevenEvents flat_words
-unfolding flat_opened
-seven_by_words = record {
-  started = λ a b c d. refl;
-  first = refl;
-  second = refl;
-  third = refl;
-  fourth = refl;
-  fifth = refl;
-  sixth = refl;
-  seventh = refl;
-}
-
-pub seven : SevenEvents (encode flat_aid)
-seven = subst SevenEvents (sym words_are) seven_by_words
