@@ -30,8 +30,8 @@ ChartRanForC chart state event outputs before number state-after outputs-after a
     Answered ChartRun (λ run. ChartRan chart state event outputs run state-after outputs-after) chart_said before number after
 
 abbrev pub ChartFlattenedForC : List ℕ → List ℕ → List ℕ → ℕ → List ℕ → List ℕ → Type 0
-ChartFlattenedForC chart room before number Room-after after =
-    Answered Flattening (λ f. ChartFlattened chart room f Room-after) flatten_said before number after
+ChartFlattenedForC chart room before number room-after after =
+    Answered Flattening (λ f. ChartFlattened chart room f room-after) flatten_said before number after
 
 -- ---- flat tables
 abbrev pub FlatCheckedForC : List ℕ → List ℕ → ℕ → List ℕ → Type 0

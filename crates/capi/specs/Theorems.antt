@@ -8,10 +8,10 @@ use Rattle.capi.specs.Calls.{ChartCheckedForC, ChartStartedForC, ChartRanForC, C
 pub record DeterminateForC : Type 0 where
   pub check_chart : (chart before : List ℕ) (m n : ℕ) (x y : List ℕ)
       → ChartCheckedForC chart before m x → ChartCheckedForC chart before n y → (m ≡ n) × (x ≡ y)
-  pub start_chart_lem : (chart state before : List ℕ) (m n : ℕ) (state-m state-n x y : List ℕ)
+  pub start_chart : (chart state before : List ℕ) (m n : ℕ) (state-m state-n x y : List ℕ)
       → ChartStartedForC chart state before m state-m x → ChartStartedForC chart state before n state-n y
       → (m ≡ n) × (x ≡ y) × (state-m ≡ state-n)
-  pub run_chart_lem : (chart state : List ℕ) (event : ℕ) (outputs before : List ℕ) (m n : ℕ)
+  pub run_chart : (chart state : List ℕ) (event : ℕ) (outputs before : List ℕ) (m n : ℕ)
       (state-m state-n outputs-m outputs-n x y : List ℕ)
       → ChartRanForC chart state event outputs before m state-m outputs-m x
       → ChartRanForC chart state event outputs before n state-n outputs-n y
@@ -23,10 +23,10 @@ pub record DeterminateForC : Type 0 where
       → (m ≡ n) × (set x 7 0 ≡ set y 7 0) × (m ≢ 0 → (x ≡ y) × (room-m ≡ room-n))
   pub check_flat : (flat before : List ℕ) (m n : ℕ) (x y : List ℕ)
       → FlatCheckedForC flat before m x → FlatCheckedForC flat before n y → (m ≡ n) × (x ≡ y)
-  pub start_flat_lem : (flat state before : List ℕ) (m n : ℕ) (state-m state-n x y : List ℕ)
+  pub start_flat : (flat state before : List ℕ) (m n : ℕ) (state-m state-n x y : List ℕ)
       → FlatStartedForC flat state before m state-m x → FlatStartedForC flat state before n state-n y
       → (m ≡ n) × (x ≡ y) × (state-m ≡ state-n)
-  pub run_flat_lem : (flat state : List ℕ) (event : ℕ) (outputs before : List ℕ) (m n : ℕ)
+  pub run_flat : (flat state : List ℕ) (event : ℕ) (outputs before : List ℕ) (m n : ℕ)
       (state-m state-n outputs-m outputs-n x y : List ℕ)
       → FlatRanForC flat state event outputs before m state-m outputs-m x
       → FlatRanForC flat state event outputs before n state-n outputs-n y

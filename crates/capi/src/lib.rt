@@ -1,7 +1,7 @@
 // The library for C and Rust: the seven public calls of `olivrescum` over lent words alone. Each returns the number of its
 // answer, and writes its place and its counts into a report of eight words, as far as they are lent.
-// include/olivrescum.h is the C side. specs/Calls.antt says what is promised, `reports` what numbers an answer has; the module
-// `theorems` says that the promises leave one outcome.
+// `capi_c` exports them; include/olivrescum.h is the C side. specs/Calls.antt says what is promised, `reports` what numbers an
+// answer has; the module `theorems` says that the promises leave one outcome.
 #![tactic(auto)]
 
 mod theorems;

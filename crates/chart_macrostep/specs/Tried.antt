@@ -12,7 +12,7 @@ use Rattle.macrostep.specs.Ends.{told?}
 -- The table is accepted, `ors` are its or-states, `words` is their number, and the state has its length.
 pub record Lent (t : List ℕ) (ors : List Bool) (words : ℕ) (state : List ℕ) : Type 0 where
   pub rules : ChartRules t
-  pub or_states_lem : Ors (view t) ors
+  pub ors_are : Ors (view t) ors
   pub number : words ≡ or_states (view t)
   pub few : words ≤ 24
   pub long : length state ≡ state_length (view t)

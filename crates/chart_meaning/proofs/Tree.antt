@@ -9,7 +9,7 @@ use Rattle.words.proofs.Tests.{by_bool, clash, eqb_yes, eqb_no, eqb_eq, eqb_ne}
 use Rattle.words.proofs.Tells.{Tells, eq, lt, ◌and◌}
 use Rattle.words.proofs.Lists.{mem_many}
 use Rattle.chart.specs.View.{Chart, view, is_and, child_of?}
-use Rattle.chart_rules.specs.Rules.{GoodPlace, root, or_state, and_state_lem, GoodBody, GoodTargets, ChartRules}
+use Rattle.chart_rules.specs.Rules.{GoodPlace, root, or_state, and_state, GoodBody, GoodTargets, ChartRules}
 use Rattle.chart_rules.proofs.Told.{some_state, parent_smaller}
 use Rattle.chart_meaning.specs.Scope.{targets_of}
 
@@ -33,21 +33,21 @@ module _ (c : Chart) where
   root_place : (k : ℕ) → GoodPlace c k → k ≡ 0 → (c.kind 0 ≡ 0) × (c.parent 0 ≡ 65535)
   root_place _ (root p q) e = (p, q)
   root_place k (or_state z _ _ _) e = absurd (z e)
-  root_place k (and_state_lem z _ _ _) e = absurd (z e)
+  root_place k (and_state z _ _ _) e = absurd (z e)
 
   and_place : (j : ℕ) → GoodPlace c j → is_and c j ≡ true → is_and c (c.parent j) ≡ false
   and_place _ (root p q) e = absurd (omega (arith, eqb_eq (c.kind 0) 2 e))
   and_place j (or_state _ l _ _) e = absurd (omega (arith, eqb_eq (c.kind j) 2 e))
-  and_place j (and_state_lem _ _ _ o) e = eqb_no o
+  and_place j (and_state _ _ _ o) e = eqb_no o
 
   or_place : (j : ℕ) → GoodPlace c j → j ≢ 0 → is_and c j ≡ false → is_and c (c.parent j) ≡ true
   or_place _ (root p q) z e = absurd (z refl)
   or_place j (or_state _ _ _ a) z e = eqb_yes a
-  or_place j (and_state_lem _ a _ _) z e = absurd (eqb_ne (c.kind j) 2 e a)
+  or_place j (and_state _ a _ _) z e = absurd (eqb_ne (c.kind j) 2 e a)
 
   initial_body : (o : ℕ) → GoodBody c o → is_and c o ≡ false → (c.initial o < c.states) × (c.parent (c.initial o) ≡ o)
   initial_body o (or_state _ l p _ _) e = (l, p)
-  initial_body o (and_state_lem a _) e = absurd (eqb_ne (c.kind o) 2 e a)
+  initial_body o (and_state a _) e = absurd (eqb_ne (c.kind o) 2 e a)
 
   target_place : (t j : ℕ) → GoodTargets c t → Memᴰ j (targets_of c t) → (j < c.states) × (is_and c j ≡ true)
   unfolding targets_of

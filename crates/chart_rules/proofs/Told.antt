@@ -13,7 +13,7 @@ use Rattle.chart.specs.View.{Chart, item_counts, is_and, and_state?, IsAnd, IsOr
 use Rattle.chart.specs.Tree.{apart}
 use Rattle.chart.proofs.Tree.{apart_told, apart_tells}
 use Rattle.chart_head.specs.Rules.{GoodCounts}
-use Rattle.chart_rules.specs.Rules.{GoodPlace, root, or_state, and_state_lem}
+use Rattle.chart_rules.specs.Rules.{GoodPlace, root, or_state, and_state}
 use Rattle.chart_rules.specs.Rules.{GoodBody, GoodStateSpans, GoodTransitionSpans, GoodSource, aim, GoodTargets}
 use Rattle.chart_rules.specs.Rules.{GoodLiteral, active, not_active, at_least, less, LiteralKept, ItemKept}
 use Rattle.chart_rules.specs.Tests.{good_place?, good_body?, good_state?}
@@ -34,13 +34,13 @@ module _ (c : Chart) where
 
   to_place : (k : ℕ) → Place k → GoodPlace c k
   to_place k (inl (z, (p, q))) = rw z (root (rw z at p) (rw z at q))
-  to_place k (inr (z, (l, (p, inl (a, o))))) = and_state_lem z a p o
+  to_place k (inr (z, (l, (p, inl (a, o))))) = and_state z a p o
   to_place k (inr (z, (l, (p, inr (o, a))))) = or_state z (omega arith) p a
 
   of_place : (k : ℕ) → GoodPlace c k → Place k
   of_place _ (root p q) = inl (refl, (p, q))
   of_place k (or_state z l p a) = inr (z, (omega arith, (p, inr ((λ e. omega arith), a))))
-  of_place k (and_state_lem z a p o) = inr (z, (omega arith, (p, inl (a, o))))
+  of_place k (and_state z a p o) = inr (z, (omega arith, (p, inl (a, o))))
 
   is_and_lem : (k : ℕ) → Tells (is_and c k) (IsAnd c k)
   is_and_lem k = eq (c.kind k) 2
@@ -64,9 +64,9 @@ module _ (c : Chart) where
       (choose (is_and_lem k) (eq (c.initial k) 65535)
       ((lt (c.initial k) c.states and eq (c.parent (c.initial k)) k)
       and eq (c.exits k).count 0 and eq (c.entries k).count 0))
-      (⊎_elim (λ r. GoodBody.and_state_lem r.0 r.1)
+      (⊎_elim (λ r. GoodBody.and_state r.0 r.1)
       (λ r. GoodBody.or_state r.0 r.1.0.0 r.1.0.1 r.1.1.0 r.1.1.1))
-      (elim [ or_state o l p x y ↦ inr (o, ((l, p), (x, y))) | and_state_lem a i ↦ inl (a, i) ])
+      (elim [ or_state o l p x y ↦ inr (o, ((l, p), (x, y))) | and_state a i ↦ inl (a, i) ])
 
   pub state : (k : ℕ) → Tells (good_state? c k) (GoodPlace c k × GoodBody c k)
   state k = place k and body k
@@ -148,7 +148,7 @@ module _ (c : Chart) where
   pub parent_smaller : (j : ℕ) → GoodPlace c j → j ≢ 0 → c.parent j < j
   parent_smaller _ (root p q) z = absurd (z refl)
   parent_smaller j (or_state _ _ l _) z = l
-  parent_smaller j (and_state_lem _ _ l _) z = l
+  parent_smaller j (and_state _ _ l _) z = l
 
   module _ (n : GoodCounts c) (places : (j : ℕ) → j < c.states → GoodPlace c j) where
     grows : (j : ℕ) → j < c.states → j ≢ 0 → c.parent j < j

@@ -11,13 +11,13 @@ use Rattle.chart_head.specs.Rules.{GoodForm, GoodCounts, GoodLayout}
 pub data GoodPlace (c : Chart) : ℕ → Type 0 where
   root : c.kind 0 ≡ 0 → c.parent 0 ≡ 65535 → GoodPlace c 0
   or_state : {k : ℕ} → k ≢ 0 → c.kind k < 2 → c.parent k < k → IsAnd c (c.parent k) → GoodPlace c k
-  and_state_lem : {k : ℕ} → k ≢ 0 → IsAnd c k → c.parent k < k → IsOr c (c.parent k) → GoodPlace c k
+  and_state : {k : ℕ} → k ≢ 0 → IsAnd c k → c.parent k < k → IsOr c (c.parent k) → GoodPlace c k
 
 -- Rule 4, what a state holds. 01, Tree: "An or-state's initial child is a child of it, and its item counts are 0; an
 -- and-state's initial word is 65535."
 pub data GoodBody (c : Chart) (k : ℕ) : Type 0 where
   or_state : IsOr c k → c.initial k < c.states → c.parent (c.initial k) ≡ k → (c.exits k).count ≡ 0 → (c.entries k).count ≡ 0 → GoodBody c k
-  and_state_lem : IsAnd c k → c.initial k ≡ 65535 → GoodBody c k
+  and_state : IsAnd c k → c.initial k ≡ 65535 → GoodBody c k
 
 -- Rule 5. 01, Ranges: spans are inside their sections, "at most 8 literals a transition".
 pub record GoodStateSpans (c : Chart) (k : ℕ) : Type 0 where

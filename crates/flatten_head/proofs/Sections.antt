@@ -114,11 +114,11 @@ module _ (c : Chart) (s : Sizes) (p : Places) where
         is.guards_are,
         is.literals_are,
         is.rules_are,
-        at.states_at_lem,
-        at.guards_at_lem,
-        at.literals_at_lem,
-        at.items_at_lem,
-        at.rules_at_lem,
+        at.states_at,
+        at.guards_at,
+        at.literals_at,
+        at.items_at,
+        at.rules_at,
         at.ends_at,
       ) refl
 

@@ -13,11 +13,11 @@ pub record SizesOf (g : Table) (s : Sizes) : Type 0 where
   pub rules_are : s.rules ≡ length g.rules
 
 pub record PlacesOf (g : Table) (p : Places) : Type 0 where
-  pub states_at_lem : p.states ≡ states_at g
-  pub guards_at_lem : p.guards ≡ guards_at g
-  pub literals_at_lem : p.literals ≡ literals_at g
-  pub items_at_lem : p.items ≡ items_at g
-  pub rules_at_lem : p.rules ≡ rules_at g
+  pub states_at : p.states ≡ states_at g
+  pub guards_at : p.guards ≡ guards_at g
+  pub literals_at : p.literals ≡ literals_at g
+  pub items_at : p.items ≡ items_at g
+  pub rules_at : p.rules ≡ rules_at g
   pub ends_at : p.total ≡ total g
 
 -- The header, and the first two sections behind it.

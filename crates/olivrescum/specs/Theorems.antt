@@ -99,9 +99,9 @@ FlattenDeterminate =
 -- What is promised of each call leaves it one outcome.
 pub record Determinate : Type 0 where
   pub check_chart : CheckDeterminate
-  pub start_chart_lem : StartDeterminate
-  pub run_chart_lem : RunDeterminate
+  pub start_chart : StartDeterminate
+  pub run_chart : RunDeterminate
   pub flatten : FlattenDeterminate
   pub check_flat : FlatCheckDeterminate
-  pub start_flat_lem : FlatStartDeterminate
-  pub run_flat_lem : FlatRunDeterminate
+  pub start_flat : FlatStartDeterminate
+  pub run_flat : FlatRunDeterminate

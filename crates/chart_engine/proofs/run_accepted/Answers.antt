@@ -28,7 +28,7 @@ run_state-requires c =
     let good = c.is_state in
     record {
       rules = c.requires;
-      or_states_lem = c.or_states-ors.ensures;
+      ors_are = c.or_states-ors.ensures;
       number = words.ensures.is;
       few = words.ensures.few;
       long = long_state (view s.t.now) s.state.now (sym good.ensures ∙ c.if-not-is_state.false);

@@ -64,7 +64,7 @@ slice_bounds-go-end-4 c =
 pub go-n-requires : goal.go-n-requires
 go-n-requires c =
     let lent = c.requires.0 in
-    (lent.rules, lent.or_states_lem)
+    (lent.rules, lent.ors_are)
 
 -- ---- the state is handed back
 pub slice_bounds-lay_rest-end : goal.slice_bounds-lay_rest-end
@@ -88,7 +88,7 @@ slice_bounds-lay_rest-end-then-is_told-3 c =
 pub lay_rest-requires : goal.lay_rest-requires
 lay_rest-requires c =
     let lent = c.requires.0 in
-    (lent.rules, lent.or_states_lem, or_states_fit lent (length-take-le c.args.words c.args.state.now (front_fits lent)))
+    (lent.rules, lent.ors_are, or_states_fit lent (length-take-le c.args.words c.args.state.now (front_fits lent)))
 
 pub slice_bounds-store-end : goal.slice_bounds-store-end
 slice_bounds-store-end c =

@@ -59,7 +59,7 @@ attempt-n-requires-2 c =
     let lent = c.requires.0 in
     record {
       rules = lent.rules;
-      or_states_lem = lent.or_states_lem;
+      ors_are = lent.ors_are;
       number = lent.number;
       few = lent.few;
       long = c.state-1.given ∙ lent.long;

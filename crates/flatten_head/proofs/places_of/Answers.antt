@@ -38,10 +38,10 @@ unfolding total rules_at items_at literals_at guards_at states_at
 returns c =
     let items = items_count (view c.args.t.now) in
     record {
-      states_at_lem = omega arith;
-      guards_at_lem = omega arith;
-      literals_at_lem = omega arith;
-      items_at_lem = omega arith;
-      rules_at_lem = omega arith;
+      states_at = omega arith;
+      guards_at = omega arith;
+      literals_at = omega arith;
+      items_at = omega arith;
+      rules_at = omega arith;
       ends_at = omega arith;
     }

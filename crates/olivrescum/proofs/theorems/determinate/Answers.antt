@@ -19,10 +19,10 @@ started_once a b x y p q =
 pub returns : goal.returns
 returns c = record {
   check_chart = λ t a b p q. told_once a b (p.answered ∙ sym q.answered);
-  start_chart_lem = λ chart state a b x y p q. started_once a b x y p.answered q.answered;
-  run_chart_lem = λ chart state event outputs a b x y v w p q. ran_once a b x y v w (p.answered ∙ sym q.answered);
+  start_chart = λ chart state a b x y p q. started_once a b x y p.answered q.answered;
+  run_chart = λ chart state event outputs a b x y v w p q. ran_once a b x y v w (p.answered ∙ sym q.answered);
   flatten = Flattened.determinate;
   check_flat = λ t a b p q. told_once a b (p.answered ∙ sym q.answered);
-  start_flat_lem = λ flat state a b x y p q. started_once a b x y p.answered q.answered;
-  run_flat_lem = λ flat state event outputs a b x y v w p q. flat_ran_once a b x y v w (p.answered ∙ sym q.answered);
+  start_flat = λ flat state a b x y p q. started_once a b x y p.answered q.answered;
+  run_flat = λ flat state event outputs a b x y v w p q. flat_ran_once a b x y v w (p.answered ∙ sym q.answered);
 }
