@@ -24,14 +24,14 @@ module _ (events : ℕ) (m : Machine) (rest : List ℕ → List ℕ) (state o : 
 
   -- The macrostep, gone through with `lent`, k of the words `outs`, came to n and these words.
   module _ (pairs j k : ℕ) (outs lent queue : List ℕ) (is : pairs ≡ pairs_for (length o)) (same-words : j ≡ i) (same-outs : outs ≡ o)
-      (Lent-is : lent ≡ take k outs) (long : length queue ≡ 32) (before : Before o first k meant)
+      (lent-is : lent ≡ take k outs) (long : length queue ≡ 32) (before : Before o first k meant)
       (n : Progress) (words vars part queue' : List ℕ)
       (ran : going n words vars part queue' ≡ turns 64 events pairs m e (going fresh (take j state) (drop j state) lent queue)) where
     came : Outcome (pairs_for (length o)) (take k o) meant (going n words vars part queue')
     came =
         let alike : turns 64 events pairs m e (going fresh (take j state) (drop j state) lent queue)
         ≡ turns 64 events (pairs_for (length o)) m e (going fresh (take i state) (drop i state) (take k o) queue) =
-        rw (is, same-words, Lent-is, same-outs) refl in
+        rw (is, same-words, lent-is, same-outs) refl in
         subst (Outcome (pairs_for (length o)) (take k o) meant) (sym (ran ∙ alike))
         (same events (pairs_for (length o)) m e (take i state) (drop i state) (take k o) queue small tame (pairs_few (length o)) long)
 
