@@ -23,9 +23,8 @@ returns-then-not-is_state c =
 pub returns-then-head-wide : goal.returns-then-head-wide
 returns-then-head-wide c =
     let s = c.args in
-    let good = c.is_state in
-    no_event (flat_view s.t.now) s.state.now s.event s.outputs.now
-    (sym good.ensures ∙ c.if-not-is_state.false)
+    let is = sym c.is_state.ensures ∙ c.if-not-is_state.false in
+    no_event (flat_view s.t.now) s.state.now s.event s.outputs.now is
     (le_trans (le_of_eq (sym c.head.ensures.is)) (le_trans c.if-head-wide.true (le_of_eq c.wide.ensures.is)))
 
 pub slice_bounds-run_state-end : goal.slice_bounds-run_state-end
