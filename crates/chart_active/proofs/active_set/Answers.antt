@@ -12,8 +12,7 @@ use Rattle.chart_active.proofs.Ors.{going_start, going_next}
 use Rattle.chart_active.proofs.active_set.Goals as goal
 
 pub loop-o-init : goal.loop-o-init
-loop-o-init c =
-    going_start (tree c.requires.0) c.args.current.now c.none-acts.ensures
+loop-o-init c = going_start (tree c.requires.0) c.args.current.now c.none-acts.ensures
 
 pub show-acts-requires : goal.show-acts-requires
 show-acts-requires c =

@@ -1,6 +1,5 @@
 -- `chart_active::show` meets its contract: an or-state decides on itself and on its children by the cell of its parent.
 -- Assumes nothing.
-use borrow.Author.Tests.{not-true, not-false}
 use mathlib.Core.Path.{sym, ◌∙◌}
 use Rattle.words.proofs.Tests.{not_yes}
 use Rattle.chart.specs.View.{view, is_and}

@@ -8,8 +8,7 @@ use Rattle.chart_active.specs.Shown.{with_child}
 use Rattle.chart_active.proofs.with_child.Goals as goal
 
 pub add-with-requires : goal.add-with-requires
-add-with-requires c =
-    omega (arith, c.requires.0.counts.states.1, c.requires.1)
+add-with-requires c = omega (arith, c.requires.0.counts.states.1, c.requires.1)
 
 pub add-requires : goal.add-requires
 add-requires c =

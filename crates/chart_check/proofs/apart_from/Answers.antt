@@ -20,15 +20,13 @@ pub returns-then-not-are_apart : goal.returns-then-not-are_apart
 unfolding apart_from?
 returns-then-not-are_apart c =
     let s = c.args in
-    let told =
-    rw (c.aim_of.ensures.is, c.aim_of-this.ensures.is) at c.are_apart.ensures in
+    let told = rw (c.aim_of.ensures.is, c.aim_of-this.ensures.is) at c.are_apart.ensures in
     stops (before? (view s.t.now) s.k s.i) refl c.loop-j-test.true told c.if-not-are_apart.true
 
 pub loop-j-preserved : goal.loop-j-preserved
 loop-j-preserved c =
     let s = c.args in
-    let told =
-    rw (c.aim_of.ensures.is, c.aim_of-this.ensures.is) at c.are_apart.ensures in
+    let told = rw (c.aim_of.ensures.is, c.aim_of-this.ensures.is) at c.are_apart.ensures in
     goes_on (before? (view s.t.now) s.k s.i) c.loop-j.invariant c.loop-j-test.true told c.if-not-are_apart.false
 
 pub returns : goal.returns

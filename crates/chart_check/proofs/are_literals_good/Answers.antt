@@ -19,5 +19,4 @@ loop-i-preserved c =
     c.good_literal.ensures c.if-not-good_literal.false
 
 pub returns : goal.returns
-returns c =
-    ends (literal_kept (view c.args.t.now)) c.head-n.ensures.is c.loop-i.invariant c.loop-i-test.false
+returns c = ends (literal_kept (view c.args.t.now)) c.head-n.ensures.is c.loop-i.invariant c.loop-i-test.false

@@ -19,5 +19,4 @@ loop-k-preserved c =
     c.is_good_state.ensures c.if-not-is_good_state.false
 
 pub returns : goal.returns
-returns c =
-    ends (state_kept (view c.args.t.now)) c.head-n.ensures.is c.loop-k.invariant c.loop-k-test.false
+returns c = ends (state_kept (view c.args.t.now)) c.head-n.ensures.is c.loop-k.invariant c.loop-k-test.false

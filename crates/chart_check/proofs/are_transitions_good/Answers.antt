@@ -19,5 +19,4 @@ loop-k-preserved c =
     c.is_good_transition.ensures c.if-not-is_good_transition.false
 
 pub returns : goal.returns
-returns c =
-    ends (transition_kept (view c.args.t.now)) c.head-n.ensures.is c.loop-k.invariant c.loop-k-test.false
+returns c = ends (transition_kept (view c.args.t.now)) c.head-n.ensures.is c.loop-k.invariant c.loop-k-test.false

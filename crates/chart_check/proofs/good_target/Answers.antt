@@ -1,5 +1,4 @@
 -- `chart_check::good_target` meets its contract: what it returns is what its callees say. Assumes nothing.
-use borrow.Author.Tests.{not-true, not-false}
 use mathlib.Core.Path.{sym, ◌∙◌}
 use Rattle.chart_rules.specs.Tests.{good_target?}
 use Rattle.chart_check.proofs.good_target.Goals as goal

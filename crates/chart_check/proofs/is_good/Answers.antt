@@ -7,20 +7,16 @@ use Rattle.chart_check.proofs.Good.{readable_by, accepted_by}
 use Rattle.chart_check.proofs.is_good.Goals as goal
 
 pub are_states_good-requires : goal.are_states_good-requires
-are_states_good-requires c =
-    readable_by c.args.t.now (holds c.is_laid_out.ensures c.if-not-is_laid_out.false)
+are_states_good-requires c = readable_by c.args.t.now (holds c.is_laid_out.ensures c.if-not-is_laid_out.false)
 
 pub are_transitions_good-requires : goal.are_transitions_good-requires
-are_transitions_good-requires c =
-    readable_by c.args.t.now (holds c.is_laid_out.ensures c.if-not-is_laid_out.false)
+are_transitions_good-requires c = readable_by c.args.t.now (holds c.is_laid_out.ensures c.if-not-is_laid_out.false)
 
 pub are_literals_good-requires : goal.are_literals_good-requires
-are_literals_good-requires c =
-    readable_by c.args.t.now (holds c.is_laid_out.ensures c.if-not-is_laid_out.false)
+are_literals_good-requires c = readable_by c.args.t.now (holds c.is_laid_out.ensures c.if-not-is_laid_out.false)
 
 pub are_items_good-requires : goal.are_items_good-requires
-are_items_good-requires c =
-    readable_by c.args.t.now (holds c.is_laid_out.ensures c.if-not-is_laid_out.false)
+are_items_good-requires c = readable_by c.args.t.now (holds c.is_laid_out.ensures c.if-not-is_laid_out.false)
 
 pub returns : goal.returns
 returns c = λ e.

@@ -7,16 +7,14 @@ pub returns-then-not-good_form : goal.returns-then-not-good_form
 returns-then-not-good_form c = rw (fails c.good_form.ensures c.if-not-good_form.true)
 
 pub good_counts-requires : goal.good_counts-requires
-good_counts-requires c =
-    ((form c.args.t.now).told (holds c.good_form.ensures c.if-not-good_form.false)).header
+good_counts-requires c = ((form c.args.t.now).told (holds c.good_form.ensures c.if-not-good_form.false)).header
 
 pub returns-then-not-good_counts : goal.returns-then-not-good_counts
 returns-then-not-good_counts c =
     rw (holds c.good_form.ensures c.if-not-good_form.false, fails c.good_counts.ensures c.if-not-good_counts.true)
 
 pub good_layout-requires : goal.good_layout-requires
-good_layout-requires c =
-    ((form c.args.t.now).told (holds c.good_form.ensures c.if-not-good_form.false)).header
+good_layout-requires c = ((form c.args.t.now).told (holds c.good_form.ensures c.if-not-good_form.false)).header
 
 pub returns : goal.returns
 returns c =

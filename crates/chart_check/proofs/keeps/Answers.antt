@@ -15,12 +15,10 @@ ninth k h n0 n1 n2 n3 n4 n5 n6 n7 =
     only k 8 (past k 7 (past k 6 (past k 5 (past k 4 four n4) n5) n6) n7) h
 
 pub good_counts-requires : goal.good_counts-requires
-good_counts-requires c =
-    header_then c.args.t.now c.args.k c.requires.2 (omega (arith, c.in-1.is))
+good_counts-requires c = header_then c.args.t.now c.args.k c.requires.2 (omega (arith, c.in-1.is))
 
 pub good_layout-requires : goal.good_layout-requires
-good_layout-requires c =
-    header_then c.args.t.now c.args.k c.requires.2 (omega (arith, c.in-2.is))
+good_layout-requires c = header_then c.args.t.now c.args.k c.requires.2 (omega (arith, c.in-2.is))
 
 pub good_state-requires : goal.good_state-requires
 good_state-requires c =
@@ -51,9 +49,7 @@ pub good_targets-requires : goal.good_targets-requires
 good_targets-requires c =
     let n = c.in_default.in_default-own.rest in
     let few = n.0.0.0.0 in
-    let z =
-    ninth c.args.k c.requires.0 few.0.0.0.1 few.0.0.1 few.0.1 few.1
-    n.0.0.0.1 n.0.0.1 n.0.1 n.1 in
+    let z = ninth c.args.k c.requires.0 few.0.0.0.1 few.0.0.1 few.0.1 few.1 n.0.0.0.1 n.0.0.1 n.0.1 n.1 in
     let here = rw z at c.requires.1 in
     let t = c.args.t.now in (
       readable_then t c.args.k c.requires.2 (omega (arith, z)),
@@ -89,7 +85,5 @@ pub returns-in_default : goal.returns-in_default
 returns-in_default c =
     let n = c.in_default.in_default-own.rest in
     let few = n.0.0.0.0 in
-    let z =
-    ninth c.args.k c.requires.0 few.0.0.0.1 few.0.0.1 few.0.1 few.1
-    n.0.0.0.1 n.0.0.1 n.0.1 n.1 in
+    let z = ninth c.args.k c.requires.0 few.0.0.0.1 few.0.0.1 few.0.1 few.1 n.0.0.0.1 n.0.0.1 n.0.1 n.1 in
     rw z c.good_targets.ensures

@@ -1,5 +1,4 @@
 -- `chart_check::lowest_bad` meets its contract: what is to be found is to be found among the places left. Assumes nothing.
-use borrow.Author.Tests.{not-true, not-false}
 use Prim.Native.Nat.{◌-◌}
 use mathlib.Core.Path.{◌≡◌, sym, ap, ◌∙◌}
 use native.Mathlib.Omega.{arith}

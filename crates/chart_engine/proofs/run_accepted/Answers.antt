@@ -1,6 +1,5 @@
 -- `chart_engine::run_accepted` meets its contract: state and event are tested in the order of the refusals. Assumes nothing.
 use borrow.Author.Rules.{rules}
-use borrow.Author.Tests.{not-true, not-false}
 use mathlib.Core.Path.{sym, ◌∙◌}
 use Rattle.chart.specs.View.{view}
 use Rattle.chart_engine.proofs.Answers.{long_state, no_state, no_event, good_call}

@@ -39,8 +39,7 @@ enter_in-entered-requires c =
     )
 
 pub next-o-requires : goal.next-o-requires
-next-o-requires c =
-    (omega arith, omega (arith, c.head-n.ensures.is, c.requires.0.counts.states.1))
+next-o-requires c = (omega arith, omega (arith, c.head-n.ensures.is, c.requires.0.counts.states.1))
 
 pub loop-o-preserved : goal.loop-o-preserved
 loop-o-preserved c =

@@ -11,17 +11,14 @@ use Rattle.chart_entered.proofs.is_reached.Goals as goal
 
 pub returns-then-o-top : goal.returns-then-o-top
 unfolding reached
-returns-then-o-top c =
-    rw (← c.state_word-o.ensures.is, eqb_yes c.if-o-top.true)
+returns-then-o-top c = rw (← c.state_word-o.ensures.is, eqb_yes c.if-o-top.true)
 
 pub returns-then-o-eq0 : goal.returns-then-o-eq0
 unfolding reached
-returns-then-o-eq0 c =
-    rw (← c.state_word-o.ensures.is, eqb_no c.if-o-top.false, eqb_yes c.if-o-eq0.true)
+returns-then-o-eq0 c = rw (← c.state_word-o.ensures.is, eqb_no c.if-o-top.false, eqb_yes c.if-o-eq0.true)
 
 pub state_word-requires : goal.state_word-requires
-state_word-requires c =
-    (chart_readable c.requires.0, omega (arith, c.requires.2, c.state_word-o.ensures.is), omega arith)
+state_word-requires c = (chart_readable c.requires.0, omega (arith, c.requires.2, c.state_word-o.ensures.is), omega arith)
 
 pub has_in-requires : goal.has_in-requires
 has_in-requires c =

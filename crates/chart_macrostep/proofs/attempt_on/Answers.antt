@@ -17,8 +17,7 @@ pub slice_bounds-load-end : goal.slice_bounds-load-end
 slice_bounds-load-end c = let pre = c.requires in words_wide pre.0 pre.1
 
 pub slice_bounds-load-end-2 : goal.slice_bounds-load-end-2
-slice_bounds-load-end-2 c =
-    sym (length-take-le c.args.words c.args.next.now (words_wide c.requires.0 c.requires.1))
+slice_bounds-load-end-2 c = sym (length-take-le c.args.words c.args.next.now (words_wide c.requires.0 c.requires.1))
 
 pub load-requires : goal.load-requires
 load-requires c =
@@ -47,8 +46,7 @@ slice_bounds-go-end c =
     words_wide pre.0 (c.next-1.given.1 ∙ pre.1)
 
 pub slice_bounds-go-end-2 : goal.slice_bounds-go-end-2
-slice_bounds-go-end-2 c =
-    sym (length-take-le c.args.words _ (words_wide c.requires.0 (c.next-1.given.1 ∙ c.requires.1)))
+slice_bounds-go-end-2 c = sym (length-take-le c.args.words _ (words_wide c.requires.0 (c.next-1.given.1 ∙ c.requires.1)))
 
 pub slice_bounds-go-end-3 : goal.slice_bounds-go-end-3
 slice_bounds-go-end-3 c =
@@ -78,12 +76,10 @@ slice_bounds-lay_rest-end-then-is_told c =
     sym (length-take-le c.args.words _ wide)
 
 pub slice_bounds-lay_rest-end-then-is_told-2 : goal.slice_bounds-lay_rest-end-then-is_told-2
-slice_bounds-lay_rest-end-then-is_told-2 c =
-    front_fits c.requires.0
+slice_bounds-lay_rest-end-then-is_told-2 c = front_fits c.requires.0
 
 pub slice_bounds-lay_rest-end-then-is_told-3 : goal.slice_bounds-lay_rest-end-then-is_told-3
-slice_bounds-lay_rest-end-then-is_told-3 c =
-    sym (length-take-le c.args.words c.args.state.now (front_fits c.requires.0))
+slice_bounds-lay_rest-end-then-is_told-3 c = sym (length-take-le c.args.words c.args.state.now (front_fits c.requires.0))
 
 pub lay_rest-requires : goal.lay_rest-requires
 lay_rest-requires c =
@@ -112,12 +108,10 @@ pub shape_of-state-then-is_told : goal.shape_of-state-then-is_told
 shape_of-state-then-is_told c = c.state-then-is_told-1.given ∙ c.state-1.given.1
 
 pub shape_of-next-then-is_told : goal.shape_of-next-then-is_told
-shape_of-next-then-is_told c =
-    c.next-2-1.given.1 ∙ c.next-1.given.1
+shape_of-next-then-is_told c = c.next-2-1.given.1 ∙ c.next-1.given.1
 
 pub shape_of-vars-then-is_told : goal.shape_of-vars-then-is_told
-shape_of-vars-then-is_told c =
-    c.vars-2-1.given.1 ∙ c.vars-1.given.1
+shape_of-vars-then-is_told c = c.vars-2-1.given.1 ∙ c.vars-1.given.1
 
 pub shape_of-outs-then-is_told : goal.shape_of-outs-then-is_told
 shape_of-outs-then-is_told c = c.outs-1.given
@@ -127,7 +121,6 @@ shape_of-queue-then-is_told c = c.queue-1.given
 
 pub returns-then-is_told : goal.returns-then-is_told
 returns-then-is_told c =
-    let told = c.before.before.before.before.before.before.before.before.before.before in
     let pre = c.requires in
     let s = c.args in
     let v = c.head-v in
@@ -148,12 +141,10 @@ returns-then-is_told c =
 
 -- ---- it is not told
 pub shape_of-next-else-is_told : goal.shape_of-next-else-is_told
-shape_of-next-else-is_told c =
-    c.next-2-1.given.1 ∙ c.next-1.given.1
+shape_of-next-else-is_told c = c.next-2-1.given.1 ∙ c.next-1.given.1
 
 pub shape_of-vars-else-is_told : goal.shape_of-vars-else-is_told
-shape_of-vars-else-is_told c =
-    c.vars-2-1.given.1 ∙ c.vars-1.given.1
+shape_of-vars-else-is_told c = c.vars-2-1.given.1 ∙ c.vars-1.given.1
 
 pub returns-else-is_told : goal.returns-else-is_told
 returns-else-is_told c =

@@ -20,20 +20,16 @@ pub run-m-requires : goal.run-m-requires
 run-m-requires c = c.requires
 
 pub shape_of-next-then-has_ended : goal.shape_of-next-then-has_ended
-shape_of-next-then-has_ended c =
-    c.next-1.given ∙ c.loop-left.invariant.0
+shape_of-next-then-has_ended c = c.next-1.given ∙ c.loop-left.invariant.0
 
 pub shape_of-vars-then-has_ended : goal.shape_of-vars-then-has_ended
-shape_of-vars-then-has_ended c =
-    c.vars-1.given ∙ c.loop-left.invariant.1
+shape_of-vars-then-has_ended c = c.vars-1.given ∙ c.loop-left.invariant.1
 
 pub shape_of-outs-then-has_ended : goal.shape_of-outs-then-has_ended
-shape_of-outs-then-has_ended c =
-    c.outs-1.given ∙ c.loop-left.invariant.2
+shape_of-outs-then-has_ended c = c.outs-1.given ∙ c.loop-left.invariant.2
 
 pub shape_of-queue-then-has_ended : goal.shape_of-queue-then-has_ended
-shape_of-queue-then-has_ended c =
-    c.queue-1.given ∙ c.loop-left.invariant.3
+shape_of-queue-then-has_ended c = c.queue-1.given ∙ c.loop-left.invariant.3
 
 pub returns-then-has_ended : goal.returns-then-has_ended
 returns-then-has_ended c =

@@ -24,8 +24,7 @@ returns-then-is_told c =
     n.result _ _ n.ensures (sym c.is_told.ensures ∙ c.if-is_told.true)
 
 pub slice_bounds-load-end : goal.slice_bounds-load-end
-slice_bounds-load-end c =
-    rw c.outputs-1.given.1 c.requires.1
+slice_bounds-load-end c = rw c.outputs-1.given.1 c.requires.1
 
 pub slice_bounds-load-end-2 : goal.slice_bounds-load-end-2
 slice_bounds-load-end-2 c = sym (length-take-le (length c.args.kept.now) _ (omega (arith, c.requires.1, c.outputs-1.given.1)))
@@ -37,9 +36,7 @@ pub shape_of-state-then-is_stopped : goal.shape_of-state-then-is_stopped
 shape_of-state-then-is_stopped c = c.state-1.given
 
 pub shape_of-outputs-then-is_stopped : goal.shape_of-outputs-then-is_stopped
-shape_of-outputs-then-is_stopped c =
-    c.outputs-2-1.given.1
-    ∙ c.outputs-1.given.1
+shape_of-outputs-then-is_stopped c = c.outputs-2-1.given.1 ∙ c.outputs-1.given.1
 
 pub shape_of-kept-then-is_stopped : goal.shape_of-kept-then-is_stopped
 shape_of-kept-then-is_stopped c = c.kept-1.given
@@ -66,17 +63,13 @@ attempt-n-requires-2 c =
     }
 
 pub shape_of-state : goal.shape_of-state
-shape_of-state c =
-    c.state-2-1.given
-    ∙ c.state-1.given
+shape_of-state c = c.state-2-1.given ∙ c.state-1.given
 
 pub shape_of-outputs : goal.shape_of-outputs
-shape_of-outputs c =
-    c.outputs-3-1.given ∙ c.outputs-2-1.given.1 ∙ c.outputs-1.given.1
+shape_of-outputs c = c.outputs-3-1.given ∙ c.outputs-2-1.given.1 ∙ c.outputs-1.given.1
 
 pub shape_of-kept : goal.shape_of-kept
-shape_of-kept c =
-    c.kept-1.given
+shape_of-kept c = c.kept-1.given
 
 pub returns : goal.returns
 returns c =

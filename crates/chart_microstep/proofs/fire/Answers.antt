@@ -1,5 +1,4 @@
 -- `chart_microstep::fire` meets its contract: what it returns is what its callees say. Assumes nothing.
-use borrow.Author.Tests.{not-true, not-false}
 use mathlib.Core.Path.{sym, ◌∙◌}
 use Rattle.effects.specs.Work.{do_steps}
 use Rattle.chart.specs.View.{view}
@@ -33,16 +32,13 @@ enter-requires c =
     (pre.0, pre.1, pre.2, c.scope_of-top.ensures.is)
 
 pub shape_of-vars : goal.shape_of-vars
-shape_of-vars c =
-    c.vars-3-1.given ∙ c.vars-2-1.given
+shape_of-vars c = c.vars-3-1.given ∙ c.vars-2-1.given
 
 pub shape_of-outs : goal.shape_of-outs
-shape_of-outs c =
-    c.outs-3-1.given ∙ c.outs-2-1.given
+shape_of-outs c = c.outs-3-1.given ∙ c.outs-2-1.given
 
 pub shape_of-queue : goal.shape_of-queue
-shape_of-queue c =
-    c.queue-3-1.given ∙ c.queue-2-1.given
+shape_of-queue c = c.queue-3-1.given ∙ c.queue-2-1.given
 
 pub returns : goal.returns
 unfolding do_steps

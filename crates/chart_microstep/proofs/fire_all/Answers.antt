@@ -39,8 +39,7 @@ next-k-requires-in-loop-k c =
     (omega (arith, c.loop-k-test.true), omega (arith, n, pre.0.counts.transitions.1))
 
 pub loop-k-smaller : goal.loop-k-smaller
-loop-k-smaller c =
-    omega (arith, c.next-k-in-loop-k.ensures.from, c.next-k-in-loop-k.ensures.up_to, c.loop-k-test.true)
+loop-k-smaller c = omega (arith, c.next-k-in-loop-k.ensures.from, c.next-k-in-loop-k.ensures.up_to, c.loop-k-test.true)
 
 pub loop-k-preserved : goal.loop-k-preserved
 loop-k-preserved c =

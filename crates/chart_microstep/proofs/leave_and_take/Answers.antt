@@ -14,16 +14,13 @@ take_own-requires c =
     (pre.0, pre.2)
 
 pub shape_of-vars : goal.shape_of-vars
-shape_of-vars c =
-    c.vars-2-1.given ∙ c.vars-1.given
+shape_of-vars c = c.vars-2-1.given ∙ c.vars-1.given
 
 pub shape_of-outs : goal.shape_of-outs
-shape_of-outs c =
-    c.outs-2-1.given ∙ c.outs-1.given
+shape_of-outs c = c.outs-2-1.given ∙ c.outs-1.given
 
 pub shape_of-queue : goal.shape_of-queue
-shape_of-queue c =
-    c.queue-2-1.given ∙ c.queue-1.given
+shape_of-queue c = c.queue-2-1.given ∙ c.queue-1.given
 
 pub returns : goal.returns
 returns c =

@@ -41,8 +41,7 @@ next-j-requires-in-loop-j c =
     (omega (arith, c.loop-j-test.true), omega (arith, n, pre.0.counts.states.1))
 
 pub loop-j-smaller : goal.loop-j-smaller
-loop-j-smaller c =
-    omega (arith, c.next-j-in-loop-j.ensures.from, c.next-j-in-loop-j.ensures.up_to, c.loop-j-test.true)
+loop-j-smaller c = omega (arith, c.next-j-in-loop-j.ensures.from, c.next-j-in-loop-j.ensures.up_to, c.loop-j-test.true)
 
 pub loop-j-preserved : goal.loop-j-preserved
 unfolding do_steps

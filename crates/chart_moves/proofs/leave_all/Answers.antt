@@ -17,8 +17,7 @@ use Rattle.chart_moves.proofs.Ands.{leave, leaves_ands}
 use Rattle.chart_moves.proofs.leave_all.Goals as goal
 
 pub last-j-requires : goal.last-j-requires
-last-j-requires c =
-    omega (arith, c.head.ensures.is, c.requires.0.counts.states.1)
+last-j-requires c = omega (arith, c.head.ensures.is, c.requires.0.counts.states.1)
 
 pub loop-j-init : goal.loop-j-init
 loop-j-init c =

@@ -1,5 +1,4 @@
 -- `chart_moves::leave_one` meets its contract: what it returns is what its callees say. Assumes nothing.
-use borrow.Author.Tests.{not-true, not-false}
 use Prim.Native.Nat.{ℕ, ◌+◌}
 use mathlib.Core.Path.{refl, sym, ap, ◌∙◌}
 use lib.Dec.{lit<}
@@ -16,8 +15,7 @@ use Rattle.chart_moves.proofs.leave_one.Goals as goal
 
 pub returns-then-not-is_beneath : goal.returns-then-not-is_beneath
 unfolding do_steps leave_step
-returns-then-not-is_beneath c =
-    λ next. rw (sym c.is_beneath.ensures ∙ c.if-not-is_beneath.true) refl
+returns-then-not-is_beneath c = λ next. rw (sym c.is_beneath.ensures ∙ c.if-not-is_beneath.true) refl
 
 pub state_at-requires : goal.state_at-requires
 state_at-requires c = let pre = c.requires in (chart_readable pre.0, pre.1)

@@ -6,7 +6,7 @@ use Rattle.chart_meaning.specs.State.{good_word?}
 use Rattle.chart_state.proofs.good_word.Goals as goal
 
 pub has_in-requires : goal.has_in-requires
-has_in-requires c = let start = c.before.before.before in omega (arith, c.requires.0.counts.states.1, c.requires.1)
+has_in-requires c = omega (arith, c.requires.0.counts.states.1, c.requires.1)
 
 pub returns-then-has_in : goal.returns-then-has_in
 unfolding good_word?

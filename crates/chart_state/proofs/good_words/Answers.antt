@@ -1,5 +1,4 @@
 -- `chart_state::good_words` meets its contract: each word passed is good, and the set shows the active states as far. Assumes nothing.
-use borrow.Author.Tests.{not-true, not-false}
 use Prim.Native.Nat.{ℕ, ◌+◌, ◌-◌, ◌<◌}
 use mathlib.Core.Path.{◌≡◌, refl, sym, ap, ◌∙◌}
 use mathlib.Core.Bool.{true, false}
@@ -24,8 +23,7 @@ unfolding good_word?
 and_good c words j e = rw e refl
 
 pub loop-o-init : goal.loop-o-init
-loop-o-init c =
-    (refl, going_start (tree c.requires.0) c.args.current.now c.none-acts.ensures)
+loop-o-init c = (refl, going_start (tree c.requires.0) c.args.current.now c.none-acts.ensures)
 
 pub show-acts-requires : goal.show-acts-requires
 show-acts-requires c =

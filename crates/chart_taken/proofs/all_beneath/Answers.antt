@@ -1,5 +1,4 @@
 -- `chart_taken::all_beneath` meets its contract: what is asked of all targets is asked of those left. Assumes nothing.
-use borrow.Author.Tests.{not-true, not-false}
 use Prim.Native.Nat.{◌+◌}
 use mathlib.Core.Path.{◌≡◌, refl, sym, ap, ◌∙◌}
 use native.Mathlib.Omega.{arith}
@@ -20,8 +19,7 @@ loop-left-init c =
     rw (first, count) (inside, refl)
 
 pub target_word-requires : goal.target_word-requires
-target_word-requires c =
-    (chart_readable c.requires.0, omega (arith, c.loop-left.invariant.0, c.loop-left-test.true))
+target_word-requires c = (chart_readable c.requires.0, omega (arith, c.loop-left.invariant.0, c.loop-left-test.true))
 
 pub returns-then-not-is_beneath : goal.returns-then-not-is_beneath
 returns-then-not-is_beneath c =

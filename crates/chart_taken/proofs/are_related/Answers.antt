@@ -1,5 +1,4 @@
 -- `chart_taken::are_related` meets its contract: both are scoped, and one scope is within the other. Assumes nothing.
-use borrow.Author.Tests.{not-true, not-false}
 use mathlib.Core.Path.{sym, ◌∙◌}
 use Rattle.chart.specs.View.{view}
 use Rattle.chart_rules.proofs.Readable.{chart_needs}

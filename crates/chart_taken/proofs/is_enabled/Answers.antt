@@ -1,5 +1,4 @@
 -- `chart_taken::is_enabled` meets its contract: it asks the trigger, the source and the condition. Assumes nothing.
-use borrow.Author.Tests.{not-true, not-false}
 use Prim.Native.Nat.{ℕ}
 use mathlib.Core.Path.{ap, ◌∙◌}
 use mathlib.Core.Bool.{Bool, false}
@@ -18,8 +17,7 @@ in? s k = get_or (cells s) k false
 
 pub returns-then-transition_word_at-e : goal.returns-then-transition_word_at-e
 unfolding enabled
-returns-then-transition_word_at-e c =
-    rw (← c.transition_word_at.ensures.is, eqb_no c.if-transition_word_at-e.true)
+returns-then-transition_word_at-e c = rw (← c.transition_word_at.ensures.is, eqb_no c.if-transition_word_at-e.true)
 
 pub has_in-requires : goal.has_in-requires
 has_in-requires c =

@@ -1,5 +1,4 @@
 -- `chart_taken::is_taken_at` meets its contract: it asks whether the transition is enabled and free. Assumes nothing.
-use borrow.Author.Tests.{not-true, not-false}
 use Rattle.chart_meaning.specs.Taken.{taken_at}
 use Rattle.chart_taken.proofs.is_taken_at.Goals as goal
 

@@ -1,5 +1,4 @@
 -- `chart_taken::meets_condition` meets its contract: what is asked of all literals is asked of those left. Assumes nothing.
-use borrow.Author.Tests.{not-true, not-false}
 use Prim.Native.Nat.{◌+◌}
 use mathlib.Core.Path.{◌≡◌, refl, sym, ap, ◌∙◌}
 use native.Mathlib.Omega.{arith}
@@ -22,8 +21,7 @@ loop-left-init c =
     rw (first, count) (inside, refl)
 
 pub literal_at-requires : goal.literal_at-requires
-literal_at-requires c =
-    (chart_readable c.requires.0, omega (arith, c.loop-left.invariant.0, c.loop-left-test.true))
+literal_at-requires c = (chart_readable c.requires.0, omega (arith, c.loop-left.invariant.0, c.loop-left-test.true))
 
 pub returns-then-not-does_hold : goal.returns-then-not-does_hold
 returns-then-not-does_hold c =

@@ -16,8 +16,7 @@ loop-o-init c =
     rw c.transition_word_at-o.ensures.is (at_source (view s.t.now) s.k (pre.0.sources s.k pre.1).source_in)
 
 pub state_word-o-requires : goal.state_word-o-requires
-state_word-o-requires c =
-    (chart_readable c.requires.0, c.loop-o.invariant.state, omega arith)
+state_word-o-requires c = (chart_readable c.requires.0, c.loop-o.invariant.state, omega arith)
 
 pub is_above_all-requires : goal.is_above_all-requires
 is_above_all-requires c =

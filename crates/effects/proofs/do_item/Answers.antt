@@ -19,8 +19,7 @@ returns-in-SatAdd c =
     saturated _ _ _ _ _ c.wide-i-in-SatAdd.ensures.is c.put-in-SatAdd.ensures item c.word-x-in-SatAdd.ensures c.sat_add.ensures
 
 pub returns-in-Set : goal.returns-in-Set
-returns-in-Set c =
-    stored _ _ _ _ _ c.wide.ensures.is c.put-in-Set.ensures c.in-Set.is
+returns-in-Set c = stored _ _ _ _ _ c.wide.ensures.is c.put-in-Set.ensures c.in-Set.is
 
 pub returns-in-Log : goal.returns-in-Log
 returns-in-Log c =

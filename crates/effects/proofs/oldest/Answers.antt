@@ -2,5 +2,4 @@
 use Rattle.effects.proofs.oldest.Goals as goal
 
 pub returns : goal.returns
-returns c =
-    rw (c.trigger_of.ensures, c.byte-signal.ensures, c.wide.ensures.is, c.head_of.ensures.is)
+returns c = rw (c.trigger_of.ensures, c.byte-signal.ensures, c.wide.ensures.is, c.head_of.ensures.is)

@@ -8,12 +8,10 @@ use Rattle.flat_check.proofs.Before.{header_then, readable_then, span_then}
 use Rattle.flat_check.proofs.keeps.Goals as goal
 
 pub good_counts-requires : goal.good_counts-requires
-good_counts-requires c =
-    header_then c.args.t.now c.args.k c.requires.2 (omega (arith, c.in-1.is))
+good_counts-requires c = header_then c.args.t.now c.args.k c.requires.2 (omega (arith, c.in-1.is))
 
 pub good_layout-requires : goal.good_layout-requires
-good_layout-requires c =
-    header_then c.args.t.now c.args.k c.requires.2 (omega (arith, c.in-2.is))
+good_layout-requires c = header_then c.args.t.now c.args.k c.requires.2 (omega (arith, c.in-2.is))
 
 pub good_machines-requires : goal.good_machines-requires
 good_machines-requires c =

@@ -7,12 +7,10 @@ use Rattle.flat_guards.proofs.does_agree.Goals as goal
 
 -- there is a mark for the guard
 pub has-requires : goal.has-requires
-has-requires c =
-    held_below _ _ _ c.wide.ensures.is _ c.requires c.in-Holds.is
+has-requires c = held_below _ _ _ c.wide.ensures.is _ c.requires c.in-Holds.is
 
 pub has-requires-in-Fails : goal.has-requires-in-Fails
-has-requires-in-Fails c =
-    failed_below _ _ _ c.wide-in-Fails.ensures.is _ c.requires c.in-Fails.is
+has-requires-in-Fails c = failed_below _ _ _ c.wide-in-Fails.ensures.is _ c.requires c.in-Fails.is
 
 pub returns-in-Holds : goal.returns-in-Holds
 returns-in-Holds c =

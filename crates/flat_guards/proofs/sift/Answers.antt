@@ -43,8 +43,7 @@ last-k-requires-in-loop-k c =
     le_trans (le_of_lt (less_one_in _ _ c.loop-k-test.true v.0)) (room_kept _ _ _ c.requires.1 long)
 
 pub loop-k-smaller : goal.loop-k-smaller
-loop-k-smaller c =
-    lt_of_le_of_lt c.last-k-in-loop-k.ensures.up_to (one_less _ c.loop-k-test.true)
+loop-k-smaller c = lt_of_le_of_lt c.last-k-in-loop-k.ensures.up_to (one_less _ c.loop-k-test.true)
 
 pub loop-k-preserved : goal.loop-k-preserved
 loop-k-preserved c =

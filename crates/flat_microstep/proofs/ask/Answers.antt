@@ -30,8 +30,7 @@ ask_one-requires c =
     (pre.0, omega (arith, c.head-rules.ensures.is, c.loop-k-test.true), omega (arith, pre.1, c.loop-k.invariant.1))
 
 pub seek-k-requires : goal.seek-k-requires
-seek-k-requires c =
-    (flat_readable c.requires.0, omega (arith, c.loop-k-test.true), omega (arith, c.head-rules.ensures.is))
+seek-k-requires c = (flat_readable c.requires.0, omega (arith, c.loop-k-test.true), omega (arith, c.head-rules.ensures.is))
 
 pub loop-k-smaller : goal.loop-k-smaller
 loop-k-smaller c = omega (arith, c.seek-k.ensures.from, c.seek-k.ensures.up_to, c.loop-k-test.true)

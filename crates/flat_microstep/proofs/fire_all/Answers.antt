@@ -40,8 +40,7 @@ seek-k-requires c =
     (flat_readable pre.0, omega (arith, c.loop-k-test.true), pre.2.inside)
 
 pub loop-k-smaller : goal.loop-k-smaller
-loop-k-smaller c =
-    omega (arith, c.seek-k.ensures.from, c.seek-k.ensures.up_to, c.loop-k-test.true)
+loop-k-smaller c = omega (arith, c.seek-k.ensures.from, c.seek-k.ensures.up_to, c.loop-k-test.true)
 
 pub loop-k-preserved : goal.loop-k-preserved
 loop-k-preserved c =

@@ -20,13 +20,11 @@ overflow_add-at c =
     record { fits = lt_trans inside c.well_formed.0.0 }
 
 pub run_span-requires : goal.run_span-requires
-run_span-requires c =
-    items_in c.args.t.now c.requires.0 c.args.k c.requires.1 _ c.rule_at-at.ensures.is
+run_span-requires c = items_in c.args.t.now c.requires.0 c.args.k c.requires.1 _ c.rule_at-at.ensures.is
 
 pub returns-then-not-does_fire : goal.returns-then-not-does_fire
 unfolding do_steps
-returns-then-not-does_fire c =
-    rw (sym c.does_fire.ensures ∙ c.if-not-does_fire.true) refl
+returns-then-not-does_fire c = rw (sym c.does_fire.ensures ∙ c.if-not-does_fire.true) refl
 
 pub returns : goal.returns
 unfolding do_steps rule_step

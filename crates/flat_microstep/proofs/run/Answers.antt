@@ -39,8 +39,7 @@ fire_all-requires c =
     (pre.0, room_kept _ _ _ pre.1 (c.marks-3-1.given ∙ c.marks-2-1.given ∙ c.marks-1.given), c.ask-until.ensures.reaches)
 
 pub shape_of-marks : goal.shape_of-marks
-shape_of-marks c =
-    c.marks-3-1.given ∙ c.marks-2-1.given ∙ c.marks-1.given
+shape_of-marks c = c.marks-3-1.given ∙ c.marks-2-1.given ∙ c.marks-1.given
 
 pub returns : goal.returns
 returns c =

@@ -30,8 +30,7 @@ use Rattle.flat_microstep.proofs.Seeking.{
 use Rattle.flat_microstep.proofs.seek.Goals as goal
 
 pub overflow_mul-at : goal.overflow_mul-at
-overflow_mul-at c =
-    words_fit c.args.t.now c.requires.0 c.well_formed.0.1 c.args.k (le_trans c.requires.1 c.requires.2)
+overflow_mul-at c = words_fit c.args.t.now c.requires.0 c.well_formed.0.1 c.args.k (le_trans c.requires.1 c.requires.2)
 
 pub overflow_add-at : goal.overflow_add-at
 overflow_add-at c =

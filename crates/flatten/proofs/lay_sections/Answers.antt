@@ -1,5 +1,4 @@
 -- `flatten::lay_sections` meets its contract: each section is laid where the one before it ends. Assumes nothing.
-use borrow.Author.Rules.{rules}
 use native.Mathlib.Omega.{arith}
 use Rattle.chart.specs.View.{view}
 use Rattle.flatten_laying.proofs.Laid.{laid_both}

@@ -15,37 +15,35 @@ taken_numbers-first-requires c =
     (c.requires, c.active_numbers-guards.ensures.numbers, c.active_numbers-guards.ensures.is, le_refl 48)
 
 pub sizes_of-sizes-requires : goal.sizes_of-sizes-requires
-sizes_of-sizes-requires c =
-    let start = c.before.before.before.before.before.before.before.before.before.before.before.before.before.before.before.before.before.before.before in (
-      c.requires,
-      record {
-        asked_are = c.asked_set-asked.ensures;
-        ands_are = c.and_ranks-states.ensures.ranks;
-        actives_are = c.active_numbers-guards.ensures.numbers;
-        takens_are = c.taken_numbers-first.ensures.numbers;
-        first_is = c.taken_numbers-first.ensures.is ∙ sym (entered_first (view c.args.t.now));
-      },
-      c.or_ranks-machines.ensures.is,
-      c.and_ranks-states.ensures.is,
-    )
+sizes_of-sizes-requires c = (
+  c.requires,
+  record {
+    asked_are = c.asked_set-asked.ensures;
+    ands_are = c.and_ranks-states.ensures.ranks;
+    actives_are = c.active_numbers-guards.ensures.numbers;
+    takens_are = c.taken_numbers-first.ensures.numbers;
+    first_is = c.taken_numbers-first.ensures.is ∙ sym (entered_first (view c.args.t.now));
+  },
+  c.or_ranks-machines.ensures.is,
+  c.and_ranks-states.ensures.is,
+)
 
 pub lay_heading-at-requires : goal.lay_heading-at-requires
 lay_heading-at-requires c =
     (c.requires, c.or_ranks-machines.ensures.ranks, c.and_ranks-states.ensures.ranks, c.sizes_of-sizes.ensures)
 
 pub lay_sections-requires : goal.lay_sections-requires
-lay_sections-requires c =
-    let start = c.before.before.before.before.before.before.before.before.before.before.before.before.before.before.before.before.before.before.before.before.before.before.before.before.before.before.before.before.before.before in (
-      c.requires,
-      record {
-        asked_are = c.asked_set-asked.ensures;
-        ands_are = c.and_ranks-states.ensures.ranks;
-        actives_are = c.active_numbers-guards.ensures.numbers;
-        takens_are = c.taken_numbers-first.ensures.numbers;
-        first_is = c.taken_numbers-first.ensures.is ∙ sym (entered_first (view c.args.t.now));
-      },
-      heading_end c.requires c.lay_heading-at.ensures.next,
-    )
+lay_sections-requires c = (
+  c.requires,
+  record {
+    asked_are = c.asked_set-asked.ensures;
+    ands_are = c.and_ranks-states.ensures.ranks;
+    actives_are = c.active_numbers-guards.ensures.numbers;
+    takens_are = c.taken_numbers-first.ensures.numbers;
+    first_is = c.taken_numbers-first.ensures.is ∙ sym (entered_first (view c.args.t.now));
+  },
+  heading_end c.requires c.lay_heading-at.ensures.next,
+)
 
 pub overflow_cast-result : goal.overflow_cast-result
 overflow_cast-result c =
@@ -64,24 +62,19 @@ returns c =
     record { long = encode_long g a.next b.next; room = all.laid }
 
 pub slice_bounds-lay_heading-end : goal.slice_bounds-lay_heading-end
-slice_bounds-lay_heading-end c =
-    sym c.ors-2-1.given
+slice_bounds-lay_heading-end c = sym c.ors-2-1.given
 
 pub slice_bounds-lay_heading-end-2 : goal.slice_bounds-lay_heading-end-2
-slice_bounds-lay_heading-end-2 c =
-    sym c.ands-2-1.given
+slice_bounds-lay_heading-end-2 c = sym c.ands-2-1.given
 
 pub slice_bounds-lay_sections-end : goal.slice_bounds-lay_sections-end
-slice_bounds-lay_sections-end c =
-    sym c.ands-2-1.given
+slice_bounds-lay_sections-end c = sym c.ands-2-1.given
 
 pub slice_bounds-lay_sections-end-2 : goal.slice_bounds-lay_sections-end-2
-slice_bounds-lay_sections-end-2 c =
-    sym c.actives-2-1.given
+slice_bounds-lay_sections-end-2 c = sym c.actives-2-1.given
 
 pub slice_bounds-lay_sections-end-3 : goal.slice_bounds-lay_sections-end-3
-slice_bounds-lay_sections-end-3 c =
-    sym c.takens-2-1.given
+slice_bounds-lay_sections-end-3 c = sym c.takens-2-1.given
 
 pub shape_of-room : goal.shape_of-room
 shape_of-room c = ap length (returns c).room ∙ lay_length _ _ _

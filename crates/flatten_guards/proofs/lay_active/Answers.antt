@@ -1,5 +1,4 @@
 -- `flatten_guards::lay_active` meets its contract: a state that is asked for has a guard. Assumes nothing.
-use borrow.Author.Tests.{not-true, not-false}
 use mathlib.Core.Path.{◌≡◌, sym, ◌∙◌}
 use mathlib.Core.Bool.{true, false}
 use native.Mathlib.Omega.{arith}
@@ -14,8 +13,7 @@ returns-then-not-has c =
     let s = c.args in
     let v = view s.t.now in
     let has = c.has in
-    let told : asked v s.j ≡ false =
-    sym (c.requires.2 s.j c.requires.1) ∙ sym has.ensures ∙ c.if-not-has.true in
+    let told : asked v s.j ≡ false = sym (c.requires.2 s.j c.requires.1) ∙ sym has.ensures ∙ c.if-not-has.true in
     record { guards = rw told penned_none; few = (omega arith, omega arith) }
 
 pub put_active-end-requires : goal.put_active-end-requires
@@ -23,9 +21,7 @@ put_active-end-requires c =
     let s = c.args in
     let v = view s.t.now in
     let has = c.has in
-    let told : asked v s.j ≡ true =
-    sym (c.requires.2 s.j c.requires.1) ∙ sym has.ensures
-    ∙ c.if-not-has.false in
+    let told : asked v s.j ≡ true = sym (c.requires.2 s.j c.requires.1) ∙ sym has.ensures ∙ c.if-not-has.false in
     (c.requires.0, c.requires.1, asked_and v s.j told, c.requires.3, c.requires.4, omega arith)
 
 pub returns-then-spans : goal.returns-then-spans
@@ -33,9 +29,7 @@ returns-then-spans c =
     let s = c.args in
     let v = view s.t.now in
     let has = c.has in
-    let told : asked v s.j ≡ true =
-    sym (c.requires.2 s.j c.requires.1) ∙ sym has.ensures
-    ∙ c.if-not-has.false in
+    let told : asked v s.j ≡ true = sym (c.requires.2 s.j c.requires.1) ∙ sym has.ensures ∙ c.if-not-has.false in
     let counted = c.put_active-end.ensures in
     let size = c.put_size.ensures in
     record {
@@ -49,9 +43,7 @@ put_active-requires c =
     let s = c.args in
     let v = view s.t.now in
     let has = c.has in
-    let told : asked v s.j ≡ true =
-    sym (c.requires.2 s.j c.requires.1) ∙ sym has.ensures
-    ∙ c.if-not-has.false in
+    let told : asked v s.j ≡ true = sym (c.requires.2 s.j c.requires.1) ∙ sym has.ensures ∙ c.if-not-has.false in
     (c.requires.0, c.requires.1, asked_and v s.j told, c.requires.3, c.requires.4, omega arith)
 
 pub returns : goal.returns
@@ -59,9 +51,7 @@ returns c =
     let s = c.args in
     let v = view s.t.now in
     let has = c.has in
-    let told : asked v s.j ≡ true =
-    sym (c.requires.2 s.j c.requires.1) ∙ sym has.ensures
-    ∙ c.if-not-has.false in
+    let told : asked v s.j ≡ true = sym (c.requires.2 s.j c.requires.1) ∙ sym has.ensures ∙ c.if-not-has.false in
     let laid = c.put_active.ensures in
     let end = c.behind.ensures in
     record {

@@ -1,5 +1,4 @@
 -- `flatten_guards::lay_entered` meets its contract: a state that history decides on has a guard. Assumes nothing.
-use borrow.Author.Tests.{not-true, not-false}
 use mathlib.Core.Path.{◌≡◌, sym, ◌∙◌}
 use mathlib.Core.Bool.{true, false}
 use native.Mathlib.Omega.{arith}
@@ -15,8 +14,7 @@ returns-then-not-has c =
     let s = c.args in
     let v = view s.t.now in
     let has = c.has in
-    let told : forks v s.k s.j ≡ false =
-    sym (c.requires.3 s.j c.requires.4) ∙ sym has.ensures ∙ c.if-not-has.true in
+    let told : forks v s.k s.j ≡ false = sym (c.requires.3 s.j c.requires.4) ∙ sym has.ensures ∙ c.if-not-has.true in
     record { guards = rw told penned_none; few = (omega arith, omega arith) }
 
 pub put_entered-end-requires : goal.put_entered-end-requires
@@ -24,9 +22,7 @@ put_entered-end-requires c =
     let s = c.args in
     let v = view s.t.now in
     let has = c.has in
-    let told : forks v s.k s.j ≡ true =
-    sym (c.requires.3 s.j c.requires.4) ∙ sym has.ensures
-    ∙ c.if-not-has.false in
+    let told : forks v s.k s.j ≡ true = sym (c.requires.3 s.j c.requires.4) ∙ sym has.ensures ∙ c.if-not-has.false in
     let is = fork_and v (tree c.requires.0) s.k s.j c.requires.4 told in (
       c.requires.0,
       c.requires.1,
@@ -44,9 +40,7 @@ returns-then-spans c =
     let s = c.args in
     let v = view s.t.now in
     let has = c.has in
-    let told : forks v s.k s.j ≡ true =
-    sym (c.requires.3 s.j c.requires.4) ∙ sym has.ensures
-    ∙ c.if-not-has.false in
+    let told : forks v s.k s.j ≡ true = sym (c.requires.3 s.j c.requires.4) ∙ sym has.ensures ∙ c.if-not-has.false in
     let counted = c.put_entered-end.ensures in
     let size = c.put_size.ensures in
     record {
@@ -60,9 +54,7 @@ put_entered-requires c =
     let s = c.args in
     let v = view s.t.now in
     let has = c.has in
-    let told : forks v s.k s.j ≡ true =
-    sym (c.requires.3 s.j c.requires.4) ∙ sym has.ensures
-    ∙ c.if-not-has.false in
+    let told : forks v s.k s.j ≡ true = sym (c.requires.3 s.j c.requires.4) ∙ sym has.ensures ∙ c.if-not-has.false in
     let is = fork_and v (tree c.requires.0) s.k s.j c.requires.4 told in (
       c.requires.0,
       c.requires.1,
@@ -80,9 +72,7 @@ returns c =
     let s = c.args in
     let v = view s.t.now in
     let has = c.has in
-    let told : forks v s.k s.j ≡ true =
-    sym (c.requires.3 s.j c.requires.4) ∙ sym has.ensures
-    ∙ c.if-not-has.false in
+    let told : forks v s.k s.j ≡ true = sym (c.requires.3 s.j c.requires.4) ∙ sym has.ensures ∙ c.if-not-has.false in
     let laid = c.put_entered.ensures in
     let end = c.behind.ensures in
     record {

@@ -10,8 +10,7 @@ use Rattle.flatten_guards.proofs.Penned.{penned_both}
 use Rattle.flatten_guards.proofs.lay_guards.Goals as goal
 
 pub lay_actives-active-requires : goal.lay_actives-active-requires
-lay_actives-active-requires c =
-    (c.requires.0, c.requires.1, c.requires.2, c.requires.3, omega arith, omega arith)
+lay_actives-active-requires c = (c.requires.0, c.requires.1, c.requires.2, c.requires.3, omega arith, omega arith)
 
 pub lay_takens-taken-requires : goal.lay_takens-taken-requires
 lay_takens-taken-requires c =

@@ -19,9 +19,7 @@ pub returns-then-spans : goal.returns-then-spans
 returns-then-spans c =
     let s = c.args in
     let v = view s.t.now in
-    let told : bare v s.k ≡ false =
-    sym c.is_bare.ensures
-    ∙ c.if-is_bare.false in
+    let told : bare v s.k ≡ false = sym c.is_bare.ensures ∙ c.if-is_bare.false in
     let counted = c.put_taken-end.ensures in
     let size = c.put_size.ensures in
     record {
@@ -34,9 +32,7 @@ pub returns : goal.returns
 returns c =
     let s = c.args in
     let v = view s.t.now in
-    let told : bare v s.k ≡ false =
-    sym c.is_bare.ensures
-    ∙ c.if-is_bare.false in
+    let told : bare v s.k ≡ false = sym c.is_bare.ensures ∙ c.if-is_bare.false in
     let laid = c.put_taken.ensures in
     let end = c.behind.ensures in
     record {
@@ -46,9 +42,7 @@ returns c =
     }
 
 pub put_taken-end-requires : goal.put_taken-end-requires
-put_taken-end-requires c =
-    (c.requires.0, c.requires.1, c.requires.2, c.requires.3, lit< tt)
+put_taken-end-requires c = (c.requires.0, c.requires.1, c.requires.2, c.requires.3, lit< tt)
 
 pub put_taken-requires : goal.put_taken-requires
-put_taken-requires c =
-    (c.requires.0, c.requires.1, c.requires.2, c.requires.3, omega arith)
+put_taken-requires c = (c.requires.0, c.requires.1, c.requires.2, c.requires.3, omega arith)

@@ -6,8 +6,7 @@ use Rattle.flatten_head.proofs.put_if.Goals as goal
 
 pub returns-then-is : goal.returns-then-is
 unfolding lay
-returns-then-is c =
-    rw c.if-is.true (record { place = refl; laid = c.put.ensures })
+returns-then-is c = rw c.if-is.true (record { place = refl; laid = c.put.ensures })
 
 pub returns : goal.returns
 returns c = rw c.if-is.false laid_none

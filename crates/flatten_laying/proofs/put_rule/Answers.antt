@@ -17,8 +17,7 @@ returns c =
     let two = lay_more s.at room (s.trigger ∷ []) g.first c.put.ensures c.put-2.ensures in
     let three = lay_more s.at room (s.trigger ∷ g.first ∷ []) g.second two c.put-3.ensures in
     let four = lay_more s.at room (s.trigger ∷ g.first ∷ g.second ∷ []) i.first three c.put-4.ensures in
-    let five =
-    lay_more s.at room (s.trigger ∷ g.first ∷ g.second ∷ i.first ∷ []) i.count four c.put-5.ensures in
+    let five = lay_more s.at room (s.trigger ∷ g.first ∷ g.second ∷ i.first ∷ []) i.count four c.put-5.ensures in
     record {
       next = refl;
       room = lay_more s.at room (s.trigger ∷ g.first ∷ g.second ∷ i.first ∷ i.count ∷ []) s.target five
@@ -29,16 +28,13 @@ pub shape_of-room : goal.shape_of-room
 shape_of-room c = ap length (returns c).room ∙ lay_length _ _ _
 
 pub overflow_add-at-4 : goal.overflow_add-at-4
-overflow_add-at-4 c =
-    place_fits 4 c.requires (lit< tt)
+overflow_add-at-4 c = place_fits 4 c.requires (lit< tt)
 
 pub overflow_add-at-5 : goal.overflow_add-at-5
-overflow_add-at-5 c =
-    place_fits 5 c.requires (lit< tt)
+overflow_add-at-5 c = place_fits 5 c.requires (lit< tt)
 
 pub overflow_add-result : goal.overflow_add-result
-overflow_add-result c =
-    place_fits 6 c.requires (lit< tt)
+overflow_add-result c = place_fits 6 c.requires (lit< tt)
 
 pub overflow_add-at : goal.overflow_add-at
 overflow_add-at c = place_fits 1 c.requires (lit< tt)

@@ -30,17 +30,14 @@ pub returns : goal.returns
 returns c =
     let j = c.args.j in
     let v = view c.args.t.now in
-    let current =
-    c.put_current-next.ensures in
-    let a = c.word.ensures
-    ∙ c.requires.3 j c.requires.1 in
+    let current = c.put_current-next.ensures in
+    let a = c.word.ensures ∙ c.requires.3 j c.requires.1 in
     let o = c.state_word-o.ensures.is in
     let inner : v.parent j ≢ 0 = λ z. c.if-o-eq0.false (o ∙ z) in
     let up = grand_lt (tree c.requires.0) j c.requires.1 c.requires.2 inner in
     let named = c.requires.4 (grand v j) (omega arith) in
     let grandparent = c.state_word.ensures.is ∙ ap v.parent o in
-    let g = c.word-2.ensures
-    ∙ ap (λ (i : ℕ). get_or c.args.actives.now i 0) grandparent ∙ named in
+    let g = c.word-2.ensures ∙ ap (λ (i : ℕ). get_or c.args.actives.now i 0) grandparent ∙ named in
     record { told = active_inner v j a inner g current.told c.put_holds.ensures.told; few = omega arith }
 
 pub state_word-o-requires : goal.state_word-o-requires

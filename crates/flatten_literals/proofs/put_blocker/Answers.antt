@@ -1,5 +1,4 @@
 -- `flatten_literals::put_blocker` meets its contract: there is a literal where s blocks k. Assumes nothing.
-use borrow.Author.Tests.{not-true, not-false}
 use mathlib.Core.Path.{◌∙◌}
 use native.Mathlib.Omega.{arith}
 use Rattle.flatten_laying.proofs.Laid.{laid_none}

@@ -13,8 +13,7 @@ pub loop-s-init : goal.loop-s-init
 loop-s-init c = (omega arith, omega arith, laid_none)
 
 pub put_blocker-next-requires : goal.put_blocker-next-requires
-put_blocker-next-requires c =
-    (c.requires.0, omega (arith, c.requires.1), c.requires.1, c.requires.2, omega arith)
+put_blocker-next-requires c = (c.requires.0, omega (arith, c.requires.1), c.requires.1, c.requires.2, omega arith)
 
 pub loop-s-preserved : goal.loop-s-preserved
 loop-s-preserved c =

@@ -19,8 +19,7 @@ returns-then-up-taken c =
     let s = c.args in
     let v = view s.t.now in
     let a = c.word.ensures ∙ c.requires.5 s.j c.requires.2 in
-    let taken = c.number-taken.ensures.is
-    ∙ c.requires.6 s.k c.requires.1 in
+    let taken = c.number-taken.ensures.is ∙ c.requires.6 s.k c.requires.1 in
     let up =
     above_read (tree c.requires.0) s.k s.j s.refers.now c.requires.2 c.requires.3 c.requires.7
     c.requires.4 taken c.above_number-up.ensures.is in
@@ -32,16 +31,13 @@ returns c =
     let s = c.args in
     let v = view s.t.now in
     let a = c.word-2.ensures ∙ c.requires.5 s.j c.requires.2 in
-    let taken =
-    c.number-taken.ensures.is
-    ∙ c.requires.6 s.k c.requires.1 in
+    let taken = c.number-taken.ensures.is ∙ c.requires.6 s.k c.requires.1 in
     let up =
     above_read (tree c.requires.0) s.k s.j s.refers.now c.requires.2 c.requires.3 c.requires.7
     c.requires.4 taken
     c.above_number-up.ensures.is in
     let read = c.above_number-up in
-    let below : read.result ≢ taken_guard v s.k =
-    λ e. c.if-up-taken.false (e ∙ sym taken) in
+    let below : read.result ≢ taken_guard v s.k = λ e. c.if-up-taken.false (e ∙ sym taken) in
     let holds = c.put_holds-next.ensures in
     let current = c.put_current-2.ensures in
     record { told = entered_below v s.k s.j a up below holds.told current.told; few = omega arith }

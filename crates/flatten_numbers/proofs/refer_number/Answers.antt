@@ -1,6 +1,5 @@
 -- `flatten_numbers::refer_number` meets its contract: each branch is one of its tests; an and-state's parent has a smaller number,
 -- so it is a state. Assumes nothing.
-use borrow.Author.Tests.{not-true, not-false}
 use mathlib.Core.Path.{◌≡◌, refl, sym, ◌∙◌}
 use mathlib.Core.Bool.{true, false}
 use native.Mathlib.Omega.{arith}
@@ -12,15 +11,13 @@ use Rattle.flatten_numbers.proofs.refer_number.Goals as goal
 pub returns-then-not-is_and : goal.returns-then-not-is_and
 returns-then-not-is_and c =
     let s = c.args in
-    let out : is_and (view s.t.now) s.j ≡ false =
-    sym c.is_and.ensures ∙ c.if-not-is_and.true in
+    let out : is_and (view s.t.now) s.j ≡ false = sym c.is_and.ensures ∙ c.if-not-is_and.true in
     record { is = rw out refl; small = omega arith }
 
 pub returns-then-fork : goal.returns-then-fork
 returns-then-fork c =
     let s = c.args in
-    let is : is_and (view s.t.now) s.j ≡ true =
-    sym c.is_and.ensures ∙ c.if-not-is_and.false in
+    let is : is_and (view s.t.now) s.j ≡ true = sym c.is_and.ensures ∙ c.if-not-is_and.false in
     record { is = rw (is, c.if-fork.true) refl; small = omega arith }
 
 pub above_number-requires : goal.above_number-requires
@@ -33,8 +30,7 @@ above_number-requires c =
 pub returns : goal.returns
 returns c =
     let s = c.args in
-    let is : is_and (view s.t.now) s.j ≡ true =
-    sym c.is_and.ensures ∙ c.if-not-is_and.false in
+    let is : is_and (view s.t.now) s.j ≡ true = sym c.is_and.ensures ∙ c.if-not-is_and.false in
     record { is = rw (is, c.if-fork.false) c.above_number.ensures.is; small = c.above_number.ensures.small }
 
 pub is_and-requires : goal.is_and-requires

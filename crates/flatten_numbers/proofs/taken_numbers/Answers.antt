@@ -18,8 +18,7 @@ loop-k-init c =
     (omega arith, upto_none (taken_guard v) (taken_next v) s.takens.now (c.requires.2 ∙ taken_first v))
 
 pub is_bare-bare-requires : goal.is_bare-bare-requires
-is_bare-bare-requires c =
-    (c.requires.0, omega (arith, c.number-n.ensures.is))
+is_bare-bare-requires c = (c.requires.0, omega (arith, c.number-n.ensures.is))
 
 pub taken_number-requires : goal.taken_number-requires
 taken_number-requires c =

@@ -1,5 +1,4 @@
 -- `flatten_pairs::can_quit` meets its contract: it makes the tests of `quits`, the cheap ones first. Assumes nothing.
-use borrow.Author.Tests.{not-true, not-false}
 use mathlib.Core.Path.{◌≡◌, sym, ◌∙◌}
 use mathlib.Core.Bool.{◌&&◌}
 use Rattle.chart.specs.View.{view, is_and}
@@ -42,8 +41,7 @@ returns c =
     let runs = c.has_exits in
     let inside = c.is_inside in
     let told = rw c.requires.3 at inside.ensures in
-    let meet : c.can_meet.result ≡ meets v (v.source s.k) s.j =
-    rw (← c.transition_word.ensures.is) c.can_meet.ensures in
+    let meet : c.can_meet.result ≡ meets v (v.source s.k) s.j = rw (← c.transition_word.ensures.is) c.can_meet.ensures in
     meet
     ∙ sym (quits_together (is_and v s.j) (scoped v s.k && beneath v (scope v s.k) s.j)
     (meets v (v.source s.k) s.j) (some? (v.exits s.j))

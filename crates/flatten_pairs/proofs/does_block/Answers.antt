@@ -1,5 +1,4 @@
 -- `flatten_pairs::does_block` meets its contract: it makes the tests of `blocks` in their order. Assumes nothing.
-use borrow.Author.Tests.{not-true, not-false}
 use mathlib.Core.Path.{◌≡◌, sym, ap₂, ◌∙◌}
 use mathlib.Core.Bool.{true, false}
 use lib.Dec.{eqb}
@@ -26,8 +25,7 @@ returns-then-not-are_related c =
     let v = view s.t.now in
     let first = c.transition_word.ensures.is in
     let second = c.transition_word-2.ensures.is in
-    let same : eqb (v.trigger s.s) (v.trigger s.k) ≡ true =
-    rw (← first, ← second) (eqb_yes c.if-transition_word.false) in
+    let same : eqb (v.trigger s.s) (v.trigger s.k) ≡ true = rw (← first, ← second) (eqb_yes c.if-transition_word.false) in
     let near = c.are_related in
     rw (same, sym near.ensures ∙ c.if-not-are_related.true)
 
@@ -45,8 +43,7 @@ returns c =
     let v = view s.t.now in
     let first = c.transition_word.ensures.is in
     let second = c.transition_word-2.ensures.is in
-    let same : eqb (v.trigger s.s) (v.trigger s.k) ≡ true =
-    rw (← first, ← second) (eqb_yes c.if-transition_word.false) in
+    let same : eqb (v.trigger s.s) (v.trigger s.k) ≡ true = rw (← first, ← second) (eqb_yes c.if-transition_word.false) in
     let near = c.are_related in
     let sources = ap₂ (meets v) c.transition_word-3.ensures.is c.transition_word-4.ensures.is in
     let meet = c.can_meet.ensures ∙ sources in

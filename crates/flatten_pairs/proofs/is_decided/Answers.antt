@@ -8,8 +8,7 @@ use Rattle.flatten_meaning.specs.Flattened.{decides}
 use Rattle.flatten_pairs.proofs.is_decided.Goals as goal
 
 pub keeps_word-requires : goal.keeps_word-requires
-keeps_word-requires c =
-    (chart_readable c.requires.0, rw c.state_word-o.ensures.is c.requires.3)
+keeps_word-requires c = (chart_readable c.requires.0, rw c.state_word-o.ensures.is c.requires.3)
 
 pub returns : goal.returns
 unfolding decides enters_latest

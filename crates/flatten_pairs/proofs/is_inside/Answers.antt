@@ -4,6 +4,4 @@ use mathlib.Core.Bool.{Bool, ◌&&◌}
 use Rattle.flatten_pairs.proofs.is_inside.Goals as goal
 
 pub returns : goal.returns
-returns c =
-    c.both.ensures
-    ∙ ap₂ (λ (x y : Bool). x && y) c.is_scoped.ensures c.is_beneath.ensures
+returns c = c.both.ensures ∙ ap₂ (λ (x y : Bool). x && y) c.is_scoped.ensures c.is_beneath.ensures

@@ -27,8 +27,7 @@ loop-left-init c =
     )
 
 pub does_name-requires : goal.does_name-requires
-does_name-requires c =
-    (chart_readable c.requires.0, omega (arith, c.loop-left.invariant.0, c.loop-left-test.true))
+does_name-requires c = (chart_readable c.requires.0, omega (arith, c.loop-left.invariant.0, c.loop-left-test.true))
 
 pub returns-then-does_name : goal.returns-then-does_name
 returns-then-does_name c =

@@ -1,6 +1,5 @@
 -- `flatten_rules::lay_entry` meets its contract: there is a rule where the transition enters the state by one. Assumes
 -- nothing.
-use borrow.Author.Tests.{not-true, not-false}
 use Prim.Native.Nat.{ℕ, ◌+◌}
 use mathlib.Core.Path.{◌≡◌, sym, ap, ◌∙◌}
 use mathlib.Core.Bool.{true, false}
@@ -39,9 +38,7 @@ returns c =
     let s = c.args in
     let v = view s.t.now in
     let has = c.has in
-    let told : comes v s.k s.j ≡ true =
-    sym (c.requires.2 s.j c.requires.3) ∙ sym has.ensures
-    ∙ c.if-not-has.false in
+    let told : comes v s.k s.j ≡ true = sym (c.requires.2 s.j c.requires.3) ∙ sym has.ensures ∙ c.if-not-has.false in
     let taken = c.requires.5 s.k c.requires.1 in
     let refer = c.requires.6 s.j c.requires.3 in
     let from = c.state_at.ensures.is in

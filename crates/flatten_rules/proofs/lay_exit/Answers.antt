@@ -1,5 +1,4 @@
 -- `flatten_rules::lay_exit` meets its contract: there is a rule where the transition can leave the state. Assumes nothing.
-use borrow.Author.Tests.{not-true, not-false}
 use Prim.Native.Nat.{ℕ, ◌+◌}
 use mathlib.Core.Path.{refl, ap, ◌∙◌}
 use native.Mathlib.Omega.{arith}

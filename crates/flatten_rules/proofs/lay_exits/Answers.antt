@@ -12,8 +12,7 @@ pub loop-j-init : goal.loop-j-init
 loop-j-init c =
     let s = c.args in
     let v = view s.t.now in
-    let all =
-    falling_start (of_exit v s.k) v.states s.at s.room.now c.number-j.result c.number-j.ensures.is in
+    let all = falling_start (of_exit v s.k) v.states s.at s.room.now c.number-j.result c.number-j.ensures.is in
     (omega arith, omega arith, refl, all)
 
 pub lay_exit-next-requires : goal.lay_exit-next-requires

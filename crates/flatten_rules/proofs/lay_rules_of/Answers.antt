@@ -11,12 +11,10 @@ use Rattle.flatten_rules.specs.Ruled.{of_exit, of_own, of_entry}
 use Rattle.flatten_rules.proofs.lay_rules_of.Goals as goal
 
 pub lay_exits-left-requires : goal.lay_exits-left-requires
-lay_exits-left-requires c =
-    (c.requires.0, c.requires.1, c.requires.2, c.requires.5, c.requires.6, omega arith)
+lay_exits-left-requires c = (c.requires.0, c.requires.1, c.requires.2, c.requires.5, c.requires.6, omega arith)
 
 pub lay_own-own-requires : goal.lay_own-own-requires
-lay_own-own-requires c =
-    (c.requires.0, c.requires.1, c.requires.6, omega arith)
+lay_own-own-requires c = (c.requires.0, c.requires.1, c.requires.6, omega arith)
 
 pub lay_entries-requires : goal.lay_entries-requires
 lay_entries-requires c =

@@ -1,6 +1,5 @@
 -- `flatten_sets::can_enter` meets its contract: each branch is one of `may_at`; an and-state's parent has a smaller number, so it is
 -- a state. Assumes nothing.
-use borrow.Author.Tests.{not-true, not-false}
 use Prim.Native.Nat.{ℕ}
 use mathlib.Core.Path.{sym, ap, ◌∙◌}
 use native.Mathlib.Omega.{arith}

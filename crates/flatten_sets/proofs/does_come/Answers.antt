@@ -1,6 +1,5 @@
 -- `flatten_sets::does_come` meets its contract: it makes the tests of `comes` in their order; a state that can be entered is an
 -- and-state, so its parent is a state. Assumes nothing.
-use borrow.Author.Tests.{not-true, not-false}
 use Prim.Native.Nat.{ℕ}
 use mathlib.Core.Path.{sym, ap, ◌∙◌}
 use native.Mathlib.Nat.{add_assoc}

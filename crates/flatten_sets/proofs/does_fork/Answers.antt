@@ -1,6 +1,5 @@
 -- `flatten_sets::does_fork` meets its contract: it makes the tests of `forks`, the cheap ones first; a state that can be entered is
 -- an and-state, so its parent is a state. Assumes nothing.
-use borrow.Author.Tests.{not-true, not-false}
 use mathlib.Core.Path.{sym, ap₂, ◌∙◌}
 use mathlib.Core.Bool.{◌&&◌}
 use Rattle.words.specs.Loops.{any_below}

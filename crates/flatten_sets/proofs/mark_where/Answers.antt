@@ -1,5 +1,4 @@
 -- `flatten_sets::mark_where` meets its contract: each branch is one of its test. Assumes nothing.
-use borrow.Author.Tests.{not-true, not-false}
 use mathlib.Core.Path.{◌∙◌}
 use mathlib.Core.Bool.{false}
 use lib.ListN.{get_or}

@@ -1,5 +1,4 @@
 -- `flatten_sets::may_set` meets its contract: the set has the cells of the states passed. Assumes nothing.
-use borrow.Author.Tests.{not-true, not-false}
 use Prim.Native.Nat.{ℕ, ◌-◌}
 use mathlib.Core.Path.{◌≡◌, sym, ap, ◌∙◌}
 use mathlib.Core.Bool.{false}

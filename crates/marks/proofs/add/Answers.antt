@@ -4,5 +4,4 @@ use Rattle.marks.proofs.add.Goals as goal
 
 pub returns : goal.returns
 unfolding with_mark
-returns c =
-    rw (c.put_in.ensures, c.with_bit.ensures, c.word_in-w.ensures)
+returns c = rw (c.put_in.ensures, c.with_bit.ensures, c.word_in-w.ensures)

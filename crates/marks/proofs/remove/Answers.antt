@@ -4,5 +4,4 @@ use Rattle.marks.proofs.remove.Goals as goal
 
 pub returns : goal.returns
 unfolding without_mark
-returns c =
-    rw (c.put_in.ensures, c.without_bit.ensures, c.word_in-w.ensures)
+returns c = rw (c.put_in.ensures, c.without_bit.ensures, c.word_in-w.ensures)

@@ -7,8 +7,7 @@ use Rattle.states.specs.Cells.{cells}
 use Rattle.states.proofs.grown.Goals as goal
 
 pub returns-then-b : goal.returns-then-b
-returns-then-b c =
-    c.add.ensures ∙ ap (set (cells c.args.s) c.args.k) (sym c.if-b.true)
+returns-then-b c = c.add.ensures ∙ ap (set (cells c.args.s) c.args.k) (sym c.if-b.true)
 
 pub returns : goal.returns
 returns c =

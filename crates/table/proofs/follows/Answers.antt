@@ -10,5 +10,4 @@ pub overflow_add-result : goal.overflow_add-result
 overflow_add-result c = omega (arith, mul-le-mul c.requires.2 c.number_in-3.ensures.small)
 
 pub returns : goal.returns
-returns c =
-    rw (c.number_in.ensures.is, c.number_in-2.ensures.is, c.number_in-3.ensures.is)
+returns c = rw (c.number_in.ensures.is, c.number_in-2.ensures.is, c.number_in-3.ensures.is)

@@ -3,5 +3,4 @@ use Rattle.words.proofs.Signed.{read}
 use Rattle.words.proofs.is_below.Goals as goal
 
 pub returns : goal.returns
-returns c =
-    rw (read _ _ c.ranges.x c.signed_of.ensures, read _ _ c.ranges.b c.signed_of-2.ensures)
+returns c = rw (read _ _ c.ranges.x c.signed_of.ensures, read _ _ c.ranges.b c.signed_of-2.ensures)
