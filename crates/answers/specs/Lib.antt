@@ -1,2 +1,2 @@
--- `Parts`: the parts of what a run or a flattening says.
+-- `Parts`: what a run or a flattening counted.
 pub mod Parts

@@ -9,20 +9,20 @@ mod theorems;
 ghost use Rattle.capi.specs.Calls.{ChartCheckedForC, ChartStartedForC, ChartRanForC, ChartFlattenedForC};
 ghost use Rattle.capi.specs.Calls.{FlatCheckedForC, FlatStartedForC, FlatRanForC};
 
-use reports::{chart_said, flat_said, flatten_said, tell, verdict_said};
+use reports::{Said, tell};
 
 // Is this a chart table?
 pub fn olivrescum_check_chart(chart: &[u16], report: &mut [u32]) -> u32
     ensures { ChartCheckedForC chart.now report.old result report.new }
 {
-    tell(verdict_said(olivrescum::check_chart(chart)), report)
+    tell(Said::from(olivrescum::check_chart(chart)), report)
 }
 
 // Writes the start state of a chart into `state`.
 pub fn olivrescum_start_chart(chart: &[u16], state: &mut [u16], report: &mut [u32]) -> u32
     ensures { ChartStartedForC chart.now state.old report.old result state.new report.new }
 {
-    tell(verdict_said(olivrescum::start_chart(chart, state)), report)
+    tell(Said::from(olivrescum::start_chart(chart, state)), report)
 }
 
 // Runs one event on a chart to the end of its macrostep. `state` becomes the state after it; `outputs` gets two words for
@@ -37,7 +37,7 @@ pub fn olivrescum_run_chart(
     ensures { ChartRanForC chart.now state.old event outputs.old report.old result state.new outputs.new report.new }
 {
     tell(
-        chart_said(olivrescum::run_chart(chart, state, event, outputs)),
+        Said::from(olivrescum::run_chart(chart, state, event, outputs)),
         report,
     )
 }
@@ -46,21 +46,21 @@ pub fn olivrescum_run_chart(
 pub fn olivrescum_flatten(chart: &[u16], room: &mut [u16], report: &mut [u32]) -> u32
     ensures { ChartFlattenedForC chart.now room.old report.old result room.new report.new }
 {
-    tell(flatten_said(olivrescum::flatten(chart, room)), report)
+    tell(Said::from(olivrescum::flatten(chart, room)), report)
 }
 
 // Is this a flat table?
 pub fn olivrescum_check_flat(flat: &[u16], report: &mut [u32]) -> u32
     ensures { FlatCheckedForC flat.now report.old result report.new }
 {
-    tell(verdict_said(olivrescum::check_flat(flat)), report)
+    tell(Said::from(olivrescum::check_flat(flat)), report)
 }
 
 // Writes the start state of a flat table into `state`.
 pub fn olivrescum_start_flat(flat: &[u16], state: &mut [u16], report: &mut [u32]) -> u32
     ensures { FlatStartedForC flat.now state.old report.old result state.new report.new }
 {
-    tell(verdict_said(olivrescum::start_flat(flat, state)), report)
+    tell(Said::from(olivrescum::start_flat(flat, state)), report)
 }
 
 // Runs one event on a flat table to the end of its macrostep. `state` becomes the state after it; `outputs` gets two words
@@ -75,7 +75,7 @@ pub fn olivrescum_run_flat(
     ensures { FlatRanForC flat.now state.old event outputs.old report.old result state.new outputs.new report.new }
 {
     tell(
-        flat_said(olivrescum::run_flat(flat, state, event, outputs)),
+        Said::from(olivrescum::run_flat(flat, state, event, outputs)),
         report,
     )
 }

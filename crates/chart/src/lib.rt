@@ -5,7 +5,7 @@
 
 ghost use Rattle.std.specs.Prelude.{◌≡◌, ◌+◌, ◌*◌, ◌<◌, length};
 ghost use Rattle.table.specs.Layout.{at};
-ghost use Rattle.chart.specs.View.{view, is_and, and_state?, child_of?, state_at, transition_at};
+ghost use Rattle.chart.specs.View.{is_and, and_state?, child_of?, state_at, transition_at};
 ghost use Rattle.chart.specs.Readable.{Readable};
 ghost use Rattle.chart.specs.Literals.{literal_of, literal_in};
 ghost use Rattle.chart.specs.Tree.{within, meeting, apart};
@@ -63,69 +63,6 @@ pub const DOES: usize = 4;
 
 pub const AIMS: usize = 6;
 
-// Header word i: a count, or where a section begins.
-pub fn head(t: &[u16], i: usize) -> usize
-    requires { Readable t.now × (i < 16) }
-    ensures is { result ≡ at t.now i }
-    ensures small { result < 65536 }
-{
-    words::number_in(t, i)
-}
-
-// Where the words of state k begin.
-pub fn state_at(t: &[u16], k: usize) -> usize
-    requires { Readable t.now × (k < (view t.now).states) }
-    ensures is { result ≡ state_at t.now k }
-    ensures inside { result + 6 < length t.now }
-{
-    head(t, STATES_AT) + 7 * k
-}
-
-// Where the words of transition k begin.
-pub fn transition_at(t: &[u16], k: usize) -> usize
-    requires { Readable t.now × (k < (view t.now).transitions) }
-    ensures is { result ≡ transition_at t.now k }
-    ensures inside { result + 7 < length t.now }
-{
-    head(t, TRANSITIONS_AT) + 8 * k
-}
-
-// Word r of state k.
-pub fn state_word(t: &[u16], k: usize, r: usize) -> usize
-    requires { Readable t.now × (k < (view t.now).states) × (r < 7) }
-    ensures is { result ≡ at t.now (state_at t.now k + r) }
-    ensures small { result < 65536 }
-{
-    words::number_in(t, state_at(t, k) + r)
-}
-
-// Word r of transition k, whose words begin at `place`.
-pub fn transition_word_at(t: &[u16], k: usize, place: usize, r: usize) -> usize
-    requires { Readable t.now × (k < (view t.now).transitions) × (place ≡ transition_at t.now k) × (r < 8) }
-    ensures is { result ≡ at t.now (transition_at t.now k + r) }
-    ensures small { result < 65536 }
-{
-    words::number_in(t, place + r)
-}
-
-// Word r of transition k.
-pub fn transition_word(t: &[u16], k: usize, r: usize) -> usize
-    requires { Readable t.now × (k < (view t.now).transitions) × (r < 8) }
-    ensures is { result ≡ at t.now (transition_at t.now k + r) }
-    ensures small { result < 65536 }
-{
-    words::number_in(t, transition_at(t, k) + r)
-}
-
-// Target word i.
-pub fn target_word(t: &[u16], i: usize) -> usize
-    requires { Readable t.now × (i < (view t.now).targets) }
-    ensures is { result ≡ (view t.now).target i }
-    ensures small { result < 65536 }
-{
-    words::number_in(t, head(t, TARGETS_AT) + i)
-}
-
 // What a literal asks: a state active or not, a variable at least or less than a number.
 #[derive(Clone, Copy)]
 pub enum Literal {
@@ -147,124 +84,193 @@ fn literal_of(kind: u16, a: u16, b: u16) -> Literal
     }
 }
 
-// Where the words of literal i begin.
-pub fn literal_begin(t: &[u16], i: usize) -> usize
-    requires { Readable t.now × (i < (view t.now).literals) }
-    ensures is { result ≡ at t.now 14 + 3 * i }
-    ensures inside { result + 2 < length t.now }
-{
-    head(t, LITERALS_AT) + 3 * i
+// The words of a chart table whose sections lie inside it, so that what is read of it needs no test.
+#[derive(Clone, Copy)]
+pub struct Table<'a> {
+    pub words: &'a [u16],
+    ghost readable: { Readable words.now },
 }
 
-// Literal i.
-pub fn literal_at(t: &[u16], i: usize) -> Literal
-    requires { Readable t.now × (i < (view t.now).literals) }
-    ensures { result ≡ literal_in ((view t.now).literal i) }
-{
-    let at = literal_begin(t, i);
-    literal_of(
-        words::word_in(t, at),
-        words::word_in(t, at + 1),
-        words::word_in(t, at + 2),
-    )
-}
+impl Table<'_> {
+    ghost use Rattle.chart.specs.Shown.{shown};
 
-// Where the words of item i begin.
-pub fn item_begin(t: &[u16], i: usize) -> usize
-    requires { Readable t.now × (i < (view t.now).items) }
-    ensures is { result ≡ at t.now 15 + 3 * i }
-    ensures inside { result + 2 < length t.now }
-{
-    head(t, ITEMS_AT) + 3 * i
-}
-
-// Whether state k is an and-state.
-pub fn is_and(t: &[u16], k: usize) -> bool
-    requires { Readable t.now × (k < (view t.now).states) }
-    ensures { result ≡ is_and (view t.now) k }
-{
-    state_word(t, k, KIND) == 2
-}
-
-// Whether a is the number of an and-state.
-pub fn is_and_state(t: &[u16], a: usize) -> bool
-    requires { Readable t.now }
-    ensures { result ≡ and_state? (view t.now) a }
-{
-    if a < head(t, STATES) {
-        return is_and(t, a);
+    // Header word i: a count, or where a section begins.
+    pub fn head(self, i: usize) -> usize
+        requires { i < 16 }
+        ensures is { result ≡ at self.entry.words.now i }
+        ensures small { result < 65536 }
+    {
+        words::number_in(self.words, i)
     }
-    false
-}
 
-// Whether j is the number of a child of state k.
-pub fn is_child(t: &[u16], k: usize, j: usize) -> bool
-    requires { Readable t.now }
-    ensures { result ≡ child_of? (view t.now) k j }
-{
-    if j < head(t, STATES) {
-        return state_word(t, j, PARENT) == k;
+    // Where the words of state k begin.
+    pub fn state_at(self, k: usize) -> usize
+        requires { k < (shown self).states }
+        ensures is { result ≡ state_at self.entry.words.now k }
+        ensures inside { result + 6 < length self.entry.words.now }
+    {
+        self.head(STATES_AT) + 7 * k
     }
-    false
-}
 
-// The nearest state that is one of a and b or above it, and so for the other; 0 where there is none.
-fn meeting_of(t: &[u16], a: usize, b: usize) -> usize
-    requires { Readable t.now }
-    ensures is { result ≡ meeting (view t.now) a b }
-    ensures small { result < (view t.now).states }
-{
-    let n = head(t, STATES);
-    if n <= a {
-        return 0;
+    // Where the words of transition k begin.
+    pub fn transition_at(self, k: usize) -> usize
+        requires { k < (shown self).transitions }
+        ensures is { result ≡ transition_at self.entry.words.now k }
+        ensures inside { result + 7 < length self.entry.words.now }
+    {
+        self.head(TRANSITIONS_AT) + 8 * k
     }
-    if n <= b {
-        return 0;
+
+    // Word r of state k.
+    pub fn state_word(self, k: usize, r: usize) -> usize
+        requires { (k < (shown self).states) × (r < 7) }
+        ensures is { result ≡ at self.entry.words.now (state_at self.entry.words.now k + r) }
+        ensures small { result < 65536 }
+    {
+        words::number_in(self.words, self.state_at(k) + r)
     }
-    let mut x = a;
-    let mut y = b;
-    while x != y {
-        if x < y {
-            let up = state_word(t, y, PARENT);
-            if y <= up {
-                return 0;
+
+    // Word r of transition k, whose words begin at `place`.
+    pub fn transition_word_at(self, k: usize, place: usize, r: usize) -> usize
+        requires { (k < (shown self).transitions) × (place ≡ transition_at self.words.now k) × (r < 8) }
+        ensures is { result ≡ at self.entry.words.now (transition_at self.entry.words.now k + r) }
+        ensures small { result < 65536 }
+    {
+        words::number_in(self.words, place + r)
+    }
+
+    // Word r of transition k.
+    pub fn transition_word(self, k: usize, r: usize) -> usize
+        requires { (k < (shown self).transitions) × (r < 8) }
+        ensures is { result ≡ at self.entry.words.now (transition_at self.entry.words.now k + r) }
+        ensures small { result < 65536 }
+    {
+        words::number_in(self.words, self.transition_at(k) + r)
+    }
+
+    // Target word i.
+    pub fn target_word(self, i: usize) -> usize
+        requires { i < (shown self).targets }
+        ensures is { result ≡ (shown self.entry).target i }
+        ensures small { result < 65536 }
+    {
+        words::number_in(self.words, self.head(TARGETS_AT) + i)
+    }
+
+    // Where the words of literal i begin.
+    pub fn literal_begin(self, i: usize) -> usize
+        requires { i < (shown self).literals }
+        ensures is { result ≡ at self.entry.words.now 14 + 3 * i }
+        ensures inside { result + 2 < length self.entry.words.now }
+    {
+        self.head(LITERALS_AT) + 3 * i
+    }
+
+    // Literal i.
+    pub fn literal_at(self, i: usize) -> Literal
+        requires { i < (shown self).literals }
+        ensures { result ≡ literal_in ((shown self.entry).literal i) }
+    {
+        let at = self.literal_begin(i);
+        literal_of(
+            words::word_in(self.words, at),
+            words::word_in(self.words, at + 1),
+            words::word_in(self.words, at + 2),
+        )
+    }
+
+    // Where the words of item i begin.
+    pub fn item_begin(self, i: usize) -> usize
+        requires { i < (shown self).items }
+        ensures is { result ≡ at self.entry.words.now 15 + 3 * i }
+        ensures inside { result + 2 < length self.entry.words.now }
+    {
+        self.head(ITEMS_AT) + 3 * i
+    }
+
+    // Whether state k is an and-state.
+    pub fn is_and(self, k: usize) -> bool
+        requires { k < (shown self).states }
+        ensures { result ≡ is_and (shown self.entry) k }
+    {
+        self.state_word(k, KIND) == 2
+    }
+
+    // Whether a is the number of an and-state.
+    pub fn is_and_state(self, a: usize) -> bool
+        ensures { result ≡ and_state? (shown self.entry) a }
+    {
+        if a < self.head(STATES) {
+            return self.is_and(a);
+        }
+        false
+    }
+
+    // Whether j is the number of a child of state k.
+    pub fn is_child(self, k: usize, j: usize) -> bool
+        ensures { result ≡ child_of? (shown self.entry) k j }
+    {
+        if j < self.head(STATES) {
+            return self.state_word(j, PARENT) == k;
+        }
+        false
+    }
+
+    // The nearest state that is one of a and b or above it, and so for the other; 0 where there is none.
+    fn meeting_of(self, a: usize, b: usize) -> usize
+        ensures is { result ≡ meeting (shown self.entry) a b }
+        ensures small { result < (shown self.entry).states }
+    {
+        let n = self.head(STATES);
+        if n <= a {
+            return 0;
+        }
+        if n <= b {
+            return 0;
+        }
+        let mut x = a;
+        let mut y = b;
+        while x != y {
+            if x < y {
+                let up = self.state_word(y, PARENT);
+                if y <= up {
+                    return 0;
+                }
+                y = up;
+            } else {
+                let up = self.state_word(x, PARENT);
+                if x <= up {
+                    return 0;
+                }
+                x = up;
             }
-            y = up;
-        } else {
-            let up = state_word(t, x, PARENT);
+        }
+        x
+    }
+
+    // Whether state j is a, or below it.
+    pub fn is_within(self, a: usize, j: usize) -> bool
+        ensures { result ≡ within (shown self.entry) a j }
+    {
+        if self.head(STATES) <= j {
+            return false;
+        }
+        let mut x = j;
+        while a < x {
+            let up = self.state_word(x, PARENT);
             if x <= up {
-                return 0;
+                return false;
             }
             x = up;
         }
+        a == x
     }
-    x
-}
 
-// Whether state j is a, or below it.
-pub fn is_within(t: &[u16], a: usize, j: usize) -> bool
-    requires { Readable t.now }
-    ensures { result ≡ within (view t.now) a j }
-{
-    if head(t, STATES) <= j {
-        return false;
+    // Whether two targets are apart: distinct, neither above the other, and met in an and-state.
+    pub fn are_apart(self, a: usize, b: usize) -> bool
+        ensures { result ≡ apart (shown self.entry) a b }
+    {
+        let m = self.meeting_of(a, b);
+        words::both(m != a, words::both(m != b, self.is_and(m)))
     }
-    let mut x = j;
-    while a < x {
-        let up = state_word(t, x, PARENT);
-        if x <= up {
-            return false;
-        }
-        x = up;
-    }
-    a == x
-}
-
-// Whether two targets are apart: distinct, neither above the other, and met in an and-state.
-pub fn are_apart(t: &[u16], a: usize, b: usize) -> bool
-    requires { Readable t.now }
-    ensures { result ≡ apart (view t.now) a b }
-{
-    let m = meeting_of(t, a, b);
-    words::both(m != a, words::both(m != b, is_and(t, m)))
 }

@@ -1,4 +1,5 @@
 -- What a run hands back of a macrostep, by how the macrostep ends. Assumes nothing.
+use Rattle.std.specs.Prelude.{Ok, Err}
 use Prim.Native.Nat.{ℕ}
 use mathlib.Core.Path.{◌≡◌, refl, ap, ◌∙◌}
 use mathlib.Core.Bool.{true, false}
@@ -17,16 +18,15 @@ use Rattle.chart_meaning.specs.State.{or_states}
 use Rattle.chart_meaning.specs.Calls.{finished, ran_on}
 use Rattle.chart_engine.specs.Told.{ran_told, finished_counts}
 use Rattle.answers.specs.declared.Counts.{Counts}
-use Rattle.answers.specs.declared.ChartRun.TheVariants.{Done, Refused}
 
 module _ (t state outputs : List ℕ) (n : Progress) (state' outputs' : List ℕ) where
   stopped_told : {meant : Result St} → Ends (rest (view t)) state outputs n state' outputs' meant → stopped? n ≡ true
-      → ran_told (Refused (refusal_of n)) state' outputs' ≡ finished (view t) meant state outputs
+      → ran_told (Err (refusal_of n)) state' outputs' ≡ finished (view t) meant state outputs
   stopped_told (halted h) e = rw (h.why, h.state_stays, h.outs_stay) refl
   stopped_told (ended d) e = clash (stopped? n) e d.goes_on
 
   ended_told : {meant : Result St} → Ends (rest (view t)) state outputs n state' outputs' meant → stopped? n ≡ false
-      → ran_told (Done (finished_counts n)) state' outputs' ≡ finished (view t) meant state outputs
+      → ran_told (Ok (finished_counts n)) state' outputs' ≡ finished (view t) meant state outputs
   ended_told (ended d) e = rw (d.micro, d.fired, d.left, d.entered, d.given, d.state_is, d.outs_are) refl
   ended_told (halted h) e = clash (stopped? n) h.halts e
 
@@ -41,9 +41,9 @@ module _ (t state outputs : List ℕ) (n : Progress) (state' outputs' : List ℕ
     ran = rw words_are refl
 
     pub run_stopped : stopped? n ≡ true → (r : Refusal) → r ≡ refusal_of n
-        → ran_told (Refused r) state' outputs' ≡ ran_on (view t) state event outputs
-    run_stopped h r is = ap (λ (x : Refusal). ran_told (Refused x) state' outputs') is ∙ stopped_told ends h ∙ ran
+        → ran_told (Err r) state' outputs' ≡ ran_on (view t) state event outputs
+    run_stopped h r is = ap (λ (x : Refusal). ran_told (Err x) state' outputs') is ∙ stopped_told ends h ∙ ran
 
     pub run_done : stopped? n ≡ false → (counts : Counts) → counts ≡ finished_counts n
-        → ran_told (Done counts) state' outputs' ≡ ran_on (view t) state event outputs
-    run_done h counts is = ap (λ (m : Counts). ran_told (Done m) state' outputs') is ∙ ended_told ends h ∙ ran
+        → ran_told (Ok counts) state' outputs' ≡ ran_on (view t) state event outputs
+    run_done h counts is = ap (λ (m : Counts). ran_told (Ok m) state' outputs') is ∙ ended_told ends h ∙ ran

@@ -1,15 +1,14 @@
 -- What a run of a chart says, in 01's numbers, beside the lent words afterwards.
-use Rattle.std.specs.Prelude.{ℕ, List}
+use Rattle.std.specs.Prelude.{ℕ, List, Result, Ok, Err}
 use Rattle.table.specs.Answers.{refusal_told}
+use Rattle.table.specs.declared.Refusal.{Refusal}
 use Rattle.effects.specs.declared.Progress.{Progress}
 use Rattle.effects.specs.Work.{fired_of, left_of, entered_of, micro_of, outs_of}
 use Rattle.chart_meaning.specs.Calls.{Ran, refused_run}
 use Rattle.answers.specs.declared.Counts.{Counts}
-use Rattle.answers.specs.declared.ChartRun.{ChartRun}
-use Rattle.answers.specs.declared.ChartRun.TheVariants.{Done, Refused}
 
-abbrev pub ran_told : ChartRun → List ℕ → List ℕ → Ran
-ran_told (Done n) state outputs = record {
+abbrev pub ran_told : Result Counts Refusal → List ℕ → List ℕ → Ran
+ran_told (Ok n) state outputs = record {
   answer = (0, 0);
   microsteps = n.microsteps;
   taken = n.taken;
@@ -19,7 +18,7 @@ ran_told (Done n) state outputs = record {
   state = state;
   outputs = outputs;
 }
-ran_told (Refused r) state outputs = refused_run (refusal_told r) state outputs
+ran_told (Err r) state outputs = refused_run (refusal_told r) state outputs
 
 -- What is reported of a finished macrostep.
 abbrev pub finished_counts : Progress → Counts

@@ -9,6 +9,7 @@ use lib.Seq.{length-take-le, take_all, take_at, take-append-le}
 use Rattle.effects.specs.Work.{Going, going, fresh, turns}
 use Rattle.effects.specs.declared.Progress.{Progress}
 use Rattle.chart.specs.View.{Chart, view}
+use Rattle.chart_rules.specs.Rules.{ChartRules}
 use Rattle.chart_meaning.specs.State.{or_states, state_length}
 use Rattle.chart_meaning.specs.Steps.{chart_machine, rest}
 use Rattle.chart_meaning.proofs.Rest.{rest_length}
@@ -16,17 +17,16 @@ use Rattle.macrostep.specs.Ends.{told?}
 use Rattle.chart_macrostep.specs.Tried.{Lent, after_turns, Tried}
 
 -- a lent state has its words, and then the variables
-pub lent_long : {t : List ℕ} {ors : List Bool} {words : ℕ} {state : List ℕ} → Lent t ors words state
-    → length state ≡ words + (view t).variables
+pub lent_long : {c : Chart} {ors : List Bool} {words : ℕ} {state : List ℕ} → Lent c ors words state
+    → length state ≡ words + c.variables
 unfolding state_length
-lent_long {t} h = h.long ∙ ap (λ (i : ℕ). i + (view t).variables) (sym h.number)
+lent_long {c} h = h.long ∙ ap (λ (i : ℕ). i + c.variables) (sym h.number)
 
 -- 16 words hold the variables
-pub vars_wide : {t : List ℕ} {ors : List Bool} {words : ℕ} {state : List ℕ} {v k : ℕ} → Lent t ors words state → k ≡ 16
-    → v ≡ (view t).variables → v ≤ k
-vars_wide h long is = omega (arith, h.rules.counts.variables.1)
+pub vars_wide : {t : List ℕ} {v k : ℕ} → ChartRules t → k ≡ 16 → v ≡ (view t).variables → v ≤ k
+vars_wide rules long is = omega (arith, rules.counts.variables.1)
 
-module _ {t : List ℕ} {ors : List Bool} {words : ℕ} {state : List ℕ} (h : Lent t ors words state) where
+module _ {c : Chart} {ors : List Bool} {words : ℕ} {state : List ℕ} (h : Lent c ors words state) where
   -- 24 words hold the state's words
   pub words_wide : {k : ℕ} → k ≡ 24 → words ≤ k
   words_wide long = omega (arith, h.few)
@@ -38,10 +38,10 @@ module _ {t : List ℕ} {ors : List Bool} {words : ℕ} {state : List ℕ} (h : 
   pub front_inside : {k : ℕ} → k ≡ words → (0 ≤ 48) × (0 + k ≤ length state)
   front_inside is = (omega arith, omega (arith, lent_long h))
 
-  pub or_states_fit : {k : ℕ} → k ≡ words → or_states (view t) ≤ k
+  pub or_states_fit : {k : ℕ} → k ≡ words → or_states c ≤ k
   or_states_fit is = omega (arith, h.number)
 
-  module _ {v : ℕ} (variables : v ≡ (view t).variables) where
+  module _ {v : ℕ} (variables : v ≡ c.variables) where
     -- the variables are behind them
     pub words_behind : length state ≡ words + v
     words_behind = lent_long h ∙ ap (λ (i : ℕ). words + i) (sym variables)

@@ -2,20 +2,18 @@
 use Rattle.std.specs.Prelude.{ℕ, ◌≤◌, ◌≡◌, Bool, cond, List, ◌++◌, length, take, drop}
 use Rattle.effects.specs.Work.{Going, going, fresh, turns}
 use Rattle.effects.specs.declared.Progress.{Progress}
-use Rattle.chart.specs.View.{Chart, view}
-use Rattle.chart_rules.specs.Rules.{ChartRules}
+use Rattle.chart.specs.View.{Chart}
 use Rattle.chart_meaning.specs.State.{or_states, state_length}
 use Rattle.chart_meaning.specs.Steps.{chart_machine, rest}
 use Rattle.chart_active.specs.Ors.{Ors}
 use Rattle.macrostep.specs.Ends.{told?}
 
--- The table is accepted, `ors` are its or-states, `words` is their number, and the state has its length.
-pub record Lent (t : List ℕ) (ors : List Bool) (words : ℕ) (state : List ℕ) : Type 0 where
-  pub rules : ChartRules t
-  pub ors_are : Ors (view t) ors
-  pub number : words ≡ or_states (view t)
+-- Of a chart, `ors` are its or-states, `words` is their number, and the state has its length.
+pub record Lent (c : Chart) (ors : List Bool) (words : ℕ) (state : List ℕ) : Type 0 where
+  pub ors_are : Ors c ors
+  pub number : words ≡ or_states c
   pub few : words ≤ 24
-  pub long : length state ≡ state_length (view t)
+  pub long : length state ≡ state_length c
 
 -- Where the code is after the macrostep for trigger e, from the words and variables of `state`; nothing waits in `queue`.
 abbrev pub after_turns : Chart → ℕ → ℕ → List ℕ → List ℕ → List ℕ → Going

@@ -5,22 +5,22 @@ ghost use Rattle.std.specs.Prelude.{◌≡◌, ◌≤◌, length, take, drop};
 ghost use Rattle.effects.specs.Run.{macrostep};
 ghost use Rattle.effects.specs.Lent.{pairs_for, zeros};
 ghost use Rattle.effects.specs.Work.{going, turns};
-ghost use Rattle.chart.specs.View.{view};
-ghost use Rattle.chart_rules.specs.Rules.{ChartRules};
+ghost use Rattle.chart.specs.Shown.{shown};
 ghost use Rattle.states.specs.Cells.{cells};
 ghost use Rattle.chart_active.specs.Ors.{Ors};
 ghost use Rattle.chart_meaning.specs.Steps.{chart_machine, rest};
 ghost use Rattle.macrostep.specs.Ends.{Ends};
 ghost use Rattle.chart_macrostep.specs.Tried.{Lent, Tried};
 
-use effects::{Progress, Stop};
+use chart_rules::Accepted;
+use effects::{Counted, Progress, Stop};
 use macrostep::KEPT;
 use states::StateSet;
 use table::Trigger;
 
 // Microsteps until no signal waits, 64 at most.
 fn go(
-    t: &[u16],
+    t: Accepted,
     ors: StateSet,
     event: Trigger,
     pairs: usize,
@@ -30,30 +30,28 @@ fn go(
     queue: &mut [u8],
     n: Progress,
 ) -> Progress
-    requires { ChartRules t.now × Ors (view t.now) (cells ors) }
-    ensures { going result next.new vars.new outs.new queue.new ≡ turns 64 (view t.now).events pairs (chart_machine (view t.now)) event.0 (going n next.old vars.old outs.old queue.old) }
+    requires { Ors (shown t.table) (cells ors) }
+    ensures { going result next.new vars.new outs.new queue.new ≡ turns 64 (shown t.entry.table).events pairs (chart_machine (shown t.entry.table)) event.0 (going n next.old vars.old outs.old queue.old) }
 {
-    let events = words::word_in(t, chart::EVENTS);
+    let events = words::word_in(t.table.words, chart::EVENTS);
     let mut m = n;
     let mut e = event;
-    let mut left = 64u32;
-    while 0 < left {
+    for _ in 0..64u32 {
         m = chart_microstep::run(t, ors, e, pairs, next, vars, outs, queue, m);
-        m = effects::count_micro(m);
-        if effects::has_ended(m) {
+        m = m.one_more(Counted::Microstep);
+        if m.has_ended() {
             return m;
         }
-        e = effects::oldest(queue, events, m);
-        m = effects::pop(m);
-        left -= 1;
+        e = m.oldest(queue, events);
+        m = m.one_more(Counted::Taken);
     }
-    effects::stop_at(Stop::Microsteps, m)
+    m.stop_at(Stop::Microsteps)
 }
 
 // A macrostep from `state`, which is handed back where it is told with the words of `outs`, and else stays as it is. `next`, `vars`
 // and `queue` are scratch space.
 fn attempt_on(
-    t: &[u16],
+    t: Accepted,
     ors: StateSet,
     words: usize,
     state: &mut [u16],
@@ -64,10 +62,10 @@ fn attempt_on(
     outs: &mut [u16],
     queue: &mut [u8],
 ) -> Progress
-    requires { Lent t.now (cells ors) words state.old × (length next.old ≡ 24) × (length vars.old ≡ 16) }
-    ensures { Tried (view t.now) pairs event.0 state.old outs.old queue.old result state.new outs.new }
+    requires { Lent (shown t.table) (cells ors) words state.old × (length next.old ≡ 24) × (length vars.old ≡ 16) }
+    ensures { Tried (shown t.entry.table) pairs event.0 state.old outs.old queue.old result state.new outs.new }
 {
-    let v = chart::head(t, chart::VARIABLES);
+    let v = t.table.head(chart::VARIABLES);
     copies::load(&mut next[..words], state, 0);
     copies::load(&mut vars[..v], state, words);
     let n = go(
@@ -79,7 +77,7 @@ fn attempt_on(
         &mut vars[..v],
         outs,
         queue,
-        effects::start(),
+        Progress::new(),
     );
     if macrostep::is_told(n, outs.len()) {
         chart_state::lay_rest(t, ors, &next[..words], &mut state[..words]);
@@ -90,7 +88,7 @@ fn attempt_on(
 
 // A macrostep from `state`, in space of its own: it is free again when a second one is tried.
 fn attempt(
-    t: &[u16],
+    t: Accepted,
     ors: StateSet,
     words: usize,
     state: &mut [u16],
@@ -98,8 +96,8 @@ fn attempt(
     pairs: usize,
     outs: &mut [u16],
 ) -> Progress
-    requires { Lent t.now (cells ors) words state.old }
-    ensures { Tried (view t.now) pairs event.0 state.old outs.old (zeros 32) result state.new outs.new }
+    requires { Lent (shown t.table) (cells ors) words state.old }
+    ensures { Tried (shown t.entry.table) pairs event.0 state.old outs.old (zeros 32) result state.new outs.new }
 {
     let mut next = [0u16; 24];
     let mut vars = [0u16; 16];
@@ -113,7 +111,7 @@ fn attempt(
 // and put back where it stops, or gives more and is gone through again with all words lent. Both times come to one variable: with a
 // second one the compiler takes 16 bytes of stack more.
 fn pass(
-    t: &[u16],
+    t: Accepted,
     ors: StateSet,
     words: usize,
     state: &mut [u16],
@@ -121,8 +119,8 @@ fn pass(
     outputs: &mut [u16],
     kept: &mut [u16],
 ) -> Progress
-    requires { Lent t.now (cells ors) words state.old × (length kept.old ≤ length outputs.old) }
-    ensures { Ends (rest (view t.now)) state.old outputs.old result state.new outputs.new (macrostep (view t.now).events (pairs_for (length outputs.old)) (chart_machine (view t.now)) event.0 (take words state.old) (drop words state.old)) }
+    requires { Lent (shown t.table) (cells ors) words state.old × (length kept.old ≤ length outputs.old) }
+    ensures { Ends (rest (shown t.entry.table)) state.old outputs.old result state.new outputs.new (macrostep (shown t.entry.table).events (pairs_for (length outputs.old)) (chart_machine (shown t.entry.table)) event.0 (take words state.old) (drop words state.old)) }
 {
     let all = outputs.len();
     let pairs = copies::pairs_of(all);
@@ -133,7 +131,7 @@ fn pass(
         return n;
     }
     copies::load(&mut outputs[..first], kept, 0);
-    if effects::is_stopped(n) {
+    if n.is_stopped() {
         return n;
     }
     n = attempt(t, ors, words, state, event, pairs, outputs);
@@ -143,15 +141,15 @@ fn pass(
 // A macrostep on `state`, which has `words` words before its variables. It becomes the state after the macrostep, and `outputs` gets
 // what was given; one that stops leaves both as they were.
 pub fn run(
-    t: &[u16],
+    t: Accepted,
     ors: StateSet,
     words: usize,
     state: &mut [u16],
     event: Trigger,
     outputs: &mut [u16],
 ) -> Progress
-    requires { Lent t.now (cells ors) words state.old }
-    ensures { Ends (rest (view t.now)) state.old outputs.old result state.new outputs.new (macrostep (view t.now).events (pairs_for (length outputs.old)) (chart_machine (view t.now)) event.0 (take words state.old) (drop words state.old)) }
+    requires { Lent (shown t.table) (cells ors) words state.old }
+    ensures { Ends (rest (shown t.entry.table)) state.old outputs.old result state.new outputs.new (macrostep (shown t.entry.table).events (pairs_for (length outputs.old)) (chart_machine (shown t.entry.table)) event.0 (take words state.old) (drop words state.old)) }
 {
     let first = macrostep::first_of(outputs.len());
     let mut kept = [0u16; KEPT];

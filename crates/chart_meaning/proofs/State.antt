@@ -4,7 +4,7 @@ use Prim.Native.Nat.{ℕ, ◌+◌, ◌<◌}
 use mathlib.Core.Path.{◌≡◌, refl, sym, ap, ap₂, ◌∙◌}
 use mathlib.Core.Bool.{true, false, not, ◌||◌}
 use mathlib.Core.List.{List, ◌++◌}
-use lib.ListN.{length, length-append}
+use lib.ListN.{length, length-append, length-replicate}
 use lib.Seq.{take_at}
 use lib.Dec.{eqb}
 use Rattle.words.proofs.Tests.{by_bool, eqb_yes, eqb_no, eqb_eq, eqb_self, and_i, and_l, and_r, or_second}
@@ -14,7 +14,6 @@ use Rattle.chart.specs.View.{Chart, is_and, IsOr, child_of?}
 use Rattle.chart_meaning.specs.Active.{is_or, or_rank, child, active}
 use Rattle.chart_meaning.specs.Entered.{keeps_word}
 use Rattle.effects.specs.Lent.{zeros}
-use Rattle.effects.proofs.Calls.{zeros_length}
 use Rattle.chart_meaning.specs.State.{or_states, state_length, words_of, good_word?, state_of?, start_words, start_state}
 use Rattle.chart_meaning.specs.Theorems.{OneChild, Configuration, Children, StateHasChildren, Configured, StartIsState}
 use Rattle.chart_meaning.proofs.Tree.{Tree, tree, child_told, child_and}
@@ -96,7 +95,7 @@ module _ {c : Chart} (w : Tree c) where
   start_state_lem : state_of? c (start_state c) ≡ true
   unfolding start_state
   start_state_lem =
-      state_made (start_words c) (zeros c.variables) start_length (zeros_length c.variables)
+      state_made (start_words c) (zeros c.variables) start_length (length-replicate c.variables 0)
       (λ o h. word_good (start_words c) o (λ a. rw (start_child o h a) (initial_child o h a)) (λ a e. start_child o h a))
 
 pub state_has_children : StateHasChildren

@@ -4,20 +4,20 @@
 ghost use Rattle.std.specs.Prelude.{◌≡◌, true, false, List, ℕ, ◌<◌, get_or};
 ghost use Rattle.words.specs.Loops.{when};
 ghost use Rattle.effects.specs.Work.{going, do_step, do_steps};
-ghost use Rattle.chart.specs.View.{view};
-ghost use Rattle.chart_rules.specs.Rules.{ChartRules};
+ghost use Rattle.chart.specs.Shown.{shown};
 ghost use Rattle.states.specs.Cells.{cells};
 ghost use Rattle.chart_meaning.specs.Scope.{beneath};
 ghost use Rattle.chart_meaning.specs.Steps.{leave_step, take_step, enter_step};
 ghost use Rattle.chart_active.specs.Ors.{Ors};
 ghost use Rattle.chart_moves.specs.Below.{leaves_below, enters_all};
 
-use effects::Progress;
+use chart_rules::Accepted;
+use effects::{Counted, Progress};
 use states::StateSet;
 
 // And-state j, which was active, is left, where it is below `top`, the scope: its exit items run.
 fn leave_one(
-    t: &[u16],
+    t: Accepted,
     top: usize,
     j: usize,
     pairs: usize,
@@ -26,27 +26,27 @@ fn leave_one(
     queue: &mut [u8],
     n: Progress,
 ) -> Progress
-    requires { ChartRules t.now × (j < (view t.now).states) }
-    ensures { (next : List ℕ) → going result next vars.new outs.new queue.new ≡ do_steps pairs (when (beneath (view t.now) top j) (leave_step (view t.now) j)) (going n next vars.old outs.old queue.old) }
+    requires { j < (shown t.table).states }
+    ensures { (next : List ℕ) → going result next vars.new outs.new queue.new ≡ do_steps pairs (when (beneath (shown t.entry.table) top j) (leave_step (shown t.entry.table) j)) (going n next vars.old outs.old queue.old) }
 {
-    if !chart_active::is_beneath(t, top, j) {
+    if !chart_active::is_beneath(t.table, top, j) {
         return n;
     }
     effects::run_span(
-        t,
+        t.table.words,
         chart::ITEMS_AT,
-        chart::state_at(t, j) + chart::EXITS,
+        t.table.state_at(j) + chart::EXITS,
         pairs,
         vars,
         outs,
         queue,
-        effects::count_leave(n),
+        n.one_more(Counted::Left),
     )
 }
 
 // The and-states below `top` that were active are left, in falling number.
 pub fn leave_all(
-    t: &[u16],
+    t: Accepted,
     ors: StateSet,
     top: usize,
     acts: StateSet,
@@ -56,23 +56,23 @@ pub fn leave_all(
     queue: &mut [u8],
     n: Progress,
 ) -> Progress
-    requires { ChartRules t.now × Ors (view t.now) (cells ors) }
-    ensures { (next : List ℕ) → going result next vars.new outs.new queue.new ≡ do_steps pairs (leaves_below (view t.now) (cells acts) top) (going n next vars.old outs.old queue.old) }
+    requires { Ors (shown t.table) (cells ors) }
+    ensures { (next : List ℕ) → going result next vars.new outs.new queue.new ≡ do_steps pairs (leaves_below (shown t.entry.table) (cells acts) top) (going n next vars.old outs.old queue.old) }
 {
-    let ands = states::except(acts, ors);
+    let ands = acts.except(ors);
     let mut m = n;
-    let mut j = states::last(ands, chart::head(t, chart::STATES));
+    let mut j = ands.last(t.table.head(chart::STATES));
     while 0 < j {
         j -= 1;
         m = leave_one(t, top, j, pairs, vars, outs, queue, m);
-        j = states::last(ands, j);
+        j = ands.last(j);
     }
     m
 }
 
 // State j is entered: it is to be current, and its entry items run.
 fn enter_one(
-    t: &[u16],
+    t: Accepted,
     ors: StateSet,
     j: usize,
     pairs: usize,
@@ -82,26 +82,26 @@ fn enter_one(
     queue: &mut [u8],
     n: Progress,
 ) -> Progress
-    requires { ChartRules t.now × (j < (view t.now).states) × Ors (view t.now) (cells ors) × ((view t.now).parent j < (view t.now).states) }
-    ensures { going result next.new vars.new outs.new queue.new ≡ do_step pairs (enter_step (view t.now) j) (going n next.old vars.old outs.old queue.old) }
+    requires { (j < (shown t.table).states) × Ors (shown t.table) (cells ors) × ((shown t.table).parent j < (shown t.table).states) }
+    ensures { going result next.new vars.new outs.new queue.new ≡ do_step pairs (enter_step (shown t.entry.table) j) (going n next.old vars.old outs.old queue.old) }
 {
-    let o = chart::state_word(t, j, chart::PARENT);
+    let o = t.table.state_word(j, chart::PARENT);
     words::put(next, chart_active::rank_of(t, ors, o), j as u16);
     effects::run_span(
-        t,
+        t.table.words,
         chart::ITEMS_AT,
-        chart::state_at(t, j) + chart::ENTRIES,
+        t.table.state_at(j) + chart::ENTRIES,
         pairs,
         vars,
         outs,
         queue,
-        effects::count_enter(n),
+        n.one_more(Counted::Entered),
     )
 }
 
 // The states of `entered` are entered, in rising number.
 pub fn enter_all(
-    t: &[u16],
+    t: Accepted,
     ors: StateSet,
     entered: StateSet,
     pairs: usize,
@@ -111,22 +111,22 @@ pub fn enter_all(
     queue: &mut [u8],
     n: Progress,
 ) -> Progress
-    requires { ChartRules t.now × Ors (view t.now) (cells ors) × ((j : ℕ) → get_or (cells entered) j false ≡ true → (view t.now).parent j < (view t.now).states) }
-    ensures { going result next.new vars.new outs.new queue.new ≡ do_steps pairs (enters_all (view t.now) (cells entered)) (going n next.old vars.old outs.old queue.old) }
+    requires { Ors (shown t.table) (cells ors) × ((j : ℕ) → get_or (cells entered) j false ≡ true → (shown t.table).parent j < (shown t.table).states) }
+    ensures { going result next.new vars.new outs.new queue.new ≡ do_steps pairs (enters_all (shown t.entry.table) (cells entered)) (going n next.old vars.old outs.old queue.old) }
 {
-    let states = chart::head(t, chart::STATES);
+    let states = t.table.head(chart::STATES);
     let mut m = n;
-    let mut j = states::next(entered, 0, states);
+    let mut j = entered.next(0, states);
     while j < states {
         m = enter_one(t, ors, j, pairs, next, vars, outs, queue, m);
-        j = states::next(entered, j + 1, states);
+        j = entered.next(j + 1, states);
     }
     m
 }
 
 // Transition k's own items.
 pub fn take_own(
-    t: &[u16],
+    t: Accepted,
     k: usize,
     pairs: usize,
     vars: &mut [u16],
@@ -134,17 +134,17 @@ pub fn take_own(
     queue: &mut [u8],
     n: Progress,
 ) -> Progress
-    requires { ChartRules t.now × (k < (view t.now).transitions) }
-    ensures { (next : List ℕ) → going result next vars.new outs.new queue.new ≡ do_step pairs (take_step (view t.now) k) (going n next vars.old outs.old queue.old) }
+    requires { k < (shown t.table).transitions }
+    ensures { (next : List ℕ) → going result next vars.new outs.new queue.new ≡ do_step pairs (take_step (shown t.entry.table) k) (going n next vars.old outs.old queue.old) }
 {
     effects::run_span(
-        t,
+        t.table.words,
         chart::ITEMS_AT,
-        chart::transition_at(t, k) + chart::DOES,
+        t.table.transition_at(k) + chart::DOES,
         pairs,
         vars,
         outs,
         queue,
-        effects::count_fire(n),
+        n.one_more(Counted::Fired),
     )
 }

@@ -7,29 +7,26 @@ use Rattle.table.specs.Triple.{triple_at}
 use Rattle.table.specs.Items.{item_in}
 use Rattle.effects.specs.Work.{Work, stopped?, do_item, do_items, items_from, span_items, ItemsIn}
 
-module _ (t : List ℕ) (pairs at k : ℕ) (w : Work) where
-  pub step : 0 < k → stopped? w.n ≡ false
-      → do_items pairs (items_from t at k) w
-      ≡ do_items pairs (items_from t (at + 3) (k - 1)) (do_item pairs (item_in (triple_at t at)) w)
+-- the items from item k on, of `count` that begin at word `first`
+module _ (t : List ℕ) (pairs first count k : ℕ) (w : Work) where
+  abbrev from : ℕ → Work → Work
+  from i = do_items pairs (items_from t (first + 3 * i) (count - i))
+
+  pub step : k < count → stopped? w.n ≡ false
+      → from k w ≡ from (k + 1) (do_item pairs (item_in (triple_at t (first + 3 * k))) w)
   unfolding do_items items_from
   step h e =
-      let z : k ≡ suc (k - 1) = omega arith in
-      ap (λ (n : ℕ). do_items pairs (items_from t at n) w) z ∙ rw (do_items, e)
+      let z : count - k ≡ suc (count - (k + 1)) = omega arith in
+      let next : first + 3 * k + 3 ≡ first + 3 * (k + 1) = omega arith in
+      rw (z, do_items, e, next)
 
-  pub stop : 0 < k → stopped? w.n ≡ true → do_items pairs (items_from t at k) w ≡ w
+  pub stop : k < count → stopped? w.n ≡ true → from k w ≡ w
   unfolding do_items items_from
-  stop h e = let z : k ≡ suc (k - 1) = omega arith in rw (z, do_items, e)
+  stop h e = let z : count - k ≡ suc (count - (k + 1)) = omega arith in rw (z, do_items, e)
 
-  pub done : k ≤ 0 → do_items pairs (items_from t at k) w ≡ w
+  pub done : count ≤ k → from k w ≡ w
   unfolding do_items items_from
-  done h = let z : k ≡ 0 = omega arith in rw (z, do_items)
-
--- where k items fit from word `at` on, the first one does, and so do those behind it
-pub first_fits : {k n : ℕ} (at : ℕ) → 0 < k → at + 3 * k ≤ n → at + 2 < n
-first_fits at some h = omega arith
-
-pub rest_fit : {k n : ℕ} (at : ℕ) → 0 < k → at + 3 * k ≤ n → at + 3 + 3 * (k - 1) ≤ n
-rest_fit at some h = omega arith
+  done h = let z : count - k ≡ 0 = omega arith in rw (z, do_items)
 
 -- `count` items from item `first` on, where item 0 begins at `base`
 pub items_from_many : (t : List ℕ) (base first count : ℕ)

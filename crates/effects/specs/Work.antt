@@ -13,6 +13,8 @@ use Rattle.table.specs.declared.Refusal.TheVariants.{Signals as signals, Outputs
 use Rattle.effects.specs.Run.{Tag, leave, fire, enter, Step, Machine, set_all}
 use Rattle.effects.specs.declared.Stop.{Stop}
 use Rattle.effects.specs.declared.Stop.TheVariants.{Signals, Outputs, Microsteps}
+use Rattle.effects.specs.declared.Counted.{Counted}
+use Rattle.effects.specs.declared.Counted.TheVariants.{Fired, Left, Entered, Microstep, Raised, Taken, Output}
 use Rattle.effects.specs.declared.Progress.{Progress}
 
 -- ---- what is counted, in two numbers of 64 bits
@@ -39,6 +41,16 @@ head_of n = n.rest / 65536 % 65536
 
 abbrev pub outs_of : Progress → ℕ
 outs_of n = n.rest % 65536
+
+-- how much is counted of each
+abbrev pub count_of : Counted → Progress → ℕ
+count_of Fired n = fired_of n
+count_of Left n = left_of n
+count_of Entered n = entered_of n
+count_of Microstep n = micro_of n
+count_of Raised n = tail_of n
+count_of Taken n = head_of n
+count_of Output n = outs_of n
 
 unfoldable pub stopped? : Progress → Bool
 stopped? n = nat_le 4611686018427387904 n.rest
@@ -169,6 +181,16 @@ micro_done n = further 281474976710656 n
 
 abbrev pub popped : Progress → Progress
 popped n = further 65536 n
+
+-- one more of what is counted
+abbrev pub one_more : Counted → Progress → Progress
+one_more Fired n = counted fire n
+one_more Left n = counted leave n
+one_more Entered n = counted enter n
+one_more Microstep n = micro_done n
+one_more Raised n = further 4294967296 n
+one_more Taken n = popped n
+one_more Output n = further 1 n
 
 abbrev pub on_n : (Progress → Progress) → Going → Going
 on_n f g = record { does = work (f g.does.n) g.does.vars g.does.outs g.does.queue; words = g.words }

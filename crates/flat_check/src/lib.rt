@@ -2,14 +2,15 @@
 // specs/Answer.antt says how a table is answered.
 #![tactic(auto)]
 
-ghost use Rattle.std.specs.Prelude.{◌≡◌, ◌<◌, ◌≤◌};
+ghost use Rattle.std.specs.Prelude.{◌≡◌, ◌<◌, IfSome};
 ghost use Rattle.table.specs.Answers.{told};
-ghost use Rattle.table.specs.Check.{rule_numbered, lowest_bad, KeptBefore};
+ghost use Rattle.table.specs.Check.{rule_numbered, IsLowestBad, KeptBefore};
 ghost use Rattle.flat_check.specs.Answer.{flat_rules, flat_answer};
 
+use flat::Table;
 use flat_head::{good_counts, good_form, good_layout};
 use flat_rules::{good_guard, good_item, good_machines, good_rule, good_span};
-use table::Verdict;
+use table::Refusal;
 use words::number;
 
 // Whether place i keeps rule k, counted from 0, where the rules before it are kept.
@@ -21,11 +22,11 @@ fn keeps(t: &[u16], k: usize, i: usize) -> bool
         0 => good_form(t),
         1 => good_counts(t),
         2 => good_layout(t),
-        3 => good_machines(t, i),
-        4 => good_span(t, i),
-        5 => good_guard(t, i),
-        6 => good_item(t, i),
-        _ => good_rule(t, i),
+        3 => good_machines(Table { words: t }, i),
+        4 => good_span(Table { words: t }, i),
+        5 => good_guard(Table { words: t }, i),
+        6 => good_item(Table { words: t }, i),
+        _ => good_rule(Table { words: t }, i),
     }
 }
 
@@ -47,34 +48,23 @@ fn places_of(t: &[u16], k: usize) -> usize
     }
 }
 
-// The lowest place that breaks rule k, where the rules before it are kept; all its places, where none does.
-fn lowest_bad(t: &[u16], k: usize, places: usize) -> usize
-    requires { (k < 8) × (places < 200000) × (places ≡ (rule_numbered (flat_rules t.now) k).places) × KeptBefore (flat_rules t.now) k }
-    ensures is { result ≡ lowest_bad (rule_numbered (flat_rules t.now) k) }
-    ensures small { result ≤ places }
+// The lowest place that breaks rule k, where the rules before it are kept.
+fn lowest_bad(t: &[u16], k: usize) -> Option<usize>
+    requires { (k < 8) × KeptBefore (flat_rules t.now) k }
+    ensures is { IsLowestBad (rule_numbered (flat_rules t.now) k) result }
+    ensures small { IfSome result (λ i. i < 200000) }
 {
-    let mut i = 0;
-    while i < places {
-        if !keeps(t, k, i) {
-            return i;
-        }
-        i += 1;
-    }
-    i
+    (0..places_of(t, k)).find(|i| !keeps(t, k, *i))
 }
 
 // The answer to a flat table: done, or the lowest rule that it breaks at the lowest place.
-pub fn check(t: &[u16]) -> Verdict
+pub fn check(t: &[u16]) -> Result<(), Refusal>
     ensures { told result ≡ flat_answer t.now }
 {
-    let mut k = 0;
-    while k < 8 {
-        let places = places_of(t, k);
-        let p = lowest_bad(t, k, places);
-        if p < places {
-            return Verdict::Refused(table::flat_refusal(k + 11, p));
+    for k in 0..8 {
+        if let Some(p) = lowest_bad(t, k) {
+            return Err(table::flat_refusal(k + 11, p));
         }
-        k += 1;
     }
-    Verdict::Done
+    Ok(())
 }

@@ -1,6 +1,6 @@
 -- Words laid one after the other into the front of others, one for each number. Assumes nothing.
-use Prim.Native.Nat.{ℕ, zero, suc, ◌+◌, ◌≤◌, ◌<◌}
-use mathlib.Core.Path.{◌≡◌, refl, ap, ◌∙◌}
+use Prim.Native.Nat.{ℕ, zero, suc, ◌+◌, ◌<◌}
+use mathlib.Core.Path.{◌≡◌, ap, ◌∙◌}
 use mathlib.Core.List.{List, [], ◌∷◌, ◌++◌}
 use native.Mathlib.Nat.{not-suc-le-zero}
 use native.Mathlib.Numerals.{add-one}
@@ -20,18 +20,10 @@ one_more g first (suc m) (x ∷ old) h =
     ap (λ (l : List ℕ). g first ∷ l)
     (ap (λ (k : ℕ). set (front g (suc first) m old) m (g k)) (omega arith) ∙ one_more g (suc first) m old (omega arith))
 
-same_many : (g : ℕ → ℕ) (first m : ℕ) (old : List ℕ) → m ≤ length old → length (front g first m old) ≡ length old
-same_many g first zero old h = refl
-same_many g first (suc m) [] h = absurd (not-suc-le-zero h)
-same_many g first (suc m) (x ∷ old) h = ap suc (same_many g (suc first) m old (omega arith))
-
 module _ (g : ℕ → ℕ) (old : List ℕ) where
   -- the words of the numbers below m are laid
   pub record Front (m : ℕ) (state : List ℕ) : Type 0 where
     pub words : state ≡ many g 0 m ++ drop m old
-
-  pub lay_start : Front 0 old
-  lay_start = record { words = refl }
 
   -- one number more
   pub lay_next : (m v : ℕ) (state after : List ℕ) → m < length old → v ≡ g m → Front m state → after ≡ set state m v
@@ -39,10 +31,6 @@ module _ (g : ℕ → ℕ) (old : List ℕ) where
   lay_next m v state after h is l e =
       let itself : g m ≡ g (0 + m) = ap g (omega arith) in
       record { words = rw (e, l.words, is ∙ itself, add-one m) (one_more g 0 m old h) }
-
-  -- the words are as many as before
-  pub front_length : (m : ℕ) (state : List ℕ) → m ≤ length old → Front m state → length state ≡ length old
-  front_length m state h l = ap length l.words ∙ same_many g 0 m old h
 
   -- all numbers
   pub lay_end : (n m : ℕ) (state : List ℕ) → m ≡ n → Front m state → state ≡ many g 0 n ++ drop n old

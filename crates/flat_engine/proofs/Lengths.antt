@@ -1,12 +1,7 @@
--- Numbers that are read of a table are numbers of the machine, and a state is words and behind them variables. Assumes nothing.
-use Prim.Native.Nat.{ℕ, ◌+◌, ◌*◌, ◌/◌, ◌<◌, ◌≤◌}
+-- A state is words and behind them variables, and there is a bit for each guard. Assumes nothing.
+use Prim.Native.Nat.{ℕ, ◌+◌, ◌*◌, ◌/◌, ◌≤◌}
 use mathlib.Core.Path.{◌≡◌}
 use native.Mathlib.Omega.{arith}
-use mir.Syntax.{w64}
-use mir.Val.{Fits}
-
-pub bits_fit : (a : ℕ) → a < 65536 → Fits w64 (a / 16 + 1)
-bits_fit a l = record { fits = omega arith }
 
 -- n words are read, and v variables
 module _ (n v state : ℕ) (long : state ≡ n + v) where

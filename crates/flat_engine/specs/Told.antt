@@ -1,15 +1,14 @@
 -- What a run of a flat table says, in 01's numbers, beside the lent words afterwards.
-use Rattle.std.specs.Prelude.{ℕ, List}
+use Rattle.std.specs.Prelude.{ℕ, List, Result, Ok, Err}
 use Rattle.table.specs.Answers.{refusal_told}
+use Rattle.table.specs.declared.Refusal.{Refusal}
 use Rattle.effects.specs.Work.{micro_of, fired_of, outs_of}
 use Rattle.effects.specs.declared.Progress.{Progress}
 use Rattle.flat_meaning.specs.Calls.{FlatRan, refused_flat_run}
 use Rattle.answers.specs.declared.FlatCounts.{FlatCounts}
-use Rattle.answers.specs.declared.FlatRun.{FlatRun}
-use Rattle.answers.specs.declared.FlatRun.TheVariants.{Done, Refused}
 
-abbrev pub flat_ran_told : FlatRun → List ℕ → List ℕ → FlatRan
-flat_ran_told (Done n) state outputs = record {
+abbrev pub flat_ran_told : Result FlatCounts Refusal → List ℕ → List ℕ → FlatRan
+flat_ran_told (Ok n) state outputs = record {
   answer = (0, 0);
   microsteps = n.microsteps;
   fired = n.fired;
@@ -17,7 +16,7 @@ flat_ran_told (Done n) state outputs = record {
   state = state;
   outputs = outputs;
 }
-flat_ran_told (Refused r) state outputs = refused_flat_run (refusal_told r) state outputs
+flat_ran_told (Err r) state outputs = refused_flat_run (refusal_told r) state outputs
 
 -- What is reported of a finished macrostep.
 abbrev pub finished_flat_counts : Progress → FlatCounts

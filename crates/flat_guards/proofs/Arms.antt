@@ -9,17 +9,9 @@ use Rattle.flat.specs.View.{Flat}
 use Rattle.flat.specs.declared.FlatLiteral.{FlatLiteral}
 use Rattle.flat.specs.declared.FlatLiteral.TheVariants.{Current, NotCurrent, AtLeast, Less, Holds, Fails}
 use Rattle.flat_meaning.specs.Guards.{current?}
-use Rattle.flat_guards.specs.Names.{Names}
 use Rattle.flat_guards.specs.Parts.{fits, agrees, AsksFor}
 
 module _ (x : FlatLiteral) (a n : ℕ) (same : n ≡ a) where
-  module _ (f : Flat) (names : Names f x) where
-    pub current_named : x ≡ Current a → n < f.states
-    current_named e = subst (λ (k : ℕ). k < f.states) (sym same) (subst (Names f) e names)
-
-    pub not_current_named : x ≡ NotCurrent a → n < f.states
-    not_current_named e = subst (λ (k : ℕ). k < f.states) (sym same) (subst (Names f) e names)
-
   module _ (f : Flat) (words vars : List ℕ) (r : Bool) where
     pub current_fits : x ≡ Current a → r ≡ current? f words n → r ≡ fits f words vars x
     unfolding fits

@@ -22,9 +22,6 @@ module _ (f : Flat) (sifted : ℕ → Bool) where
     pub below : (j : ℕ) → j < k → m j ≡ (sifted j && all_agree f m j)
     pub above : (j : ℕ) → k ≤ j → m j ≡ sifted j
 
-  pub settled_none : Settled 0 sifted
-  settled_none = record { below = λ j l. absurd (omega arith); above = λ j l. refl }
-
   -- numbers that are not marked are passed over
   pub settled_past : (m : ℕ → Bool) (k n r : ℕ) → Settled k m → Onward m k n r → Settled r m
   settled_past m k n r s e = record {

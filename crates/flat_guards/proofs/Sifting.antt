@@ -28,14 +28,6 @@ module _ (f : Flat) (words vars : List ℕ) where
     pub needs : (j : ℕ) → k ≤ j → j < f.guards → m j ≡ true → (a : ℕ) → Needs f j a → Held k m a
 
   module _ (asked : ℕ → Bool) where
-    -- at the start none is gone through
-    pub gone_none : Gone asked f.guards asked
-    gone_none = record {
-      held = λ j y n. clash (asked j) y n;
-      fit = λ j l h y. absurd (omega arith);
-      needs = λ j l h y a n. absurd (omega arith);
-    }
-
     -- numbers that are not marked are passed over
     pub gone_past : (m : ℕ → Bool) (k r : ℕ) → Gone asked k m → Last m k r → Gone asked r m
     gone_past m k r g e =

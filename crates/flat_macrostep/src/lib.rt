@@ -5,19 +5,19 @@ ghost use Rattle.std.specs.Prelude.{◌≡◌, ◌+◌, ◌*◌, ◌≤◌, leng
 ghost use Rattle.effects.specs.Run.{macrostep};
 ghost use Rattle.effects.specs.Lent.{pairs_for};
 ghost use Rattle.effects.specs.Work.{going, turns, fresh};
-ghost use Rattle.flat.specs.View.{flat_view};
-ghost use Rattle.flat_rules.specs.Rules.{FlatRules};
+ghost use Rattle.flat.specs.Shown.{shown};
 ghost use Rattle.flat_meaning.specs.Steps.{flat_machine};
 ghost use Rattle.macrostep.specs.Ends.{handed, Ends};
 ghost use Rattle.flat_macrostep.specs.Sized.{Sized};
 
-use effects::{Progress, Stop};
+use effects::{Counted, Progress, Stop};
+use flat_rules::Accepted;
 use macrostep::KEPT;
 use table::Trigger;
 
 // Microsteps until no signal waits, 64 at most. `marks` has a bit for each guard.
 fn go(
-    t: &[u16],
+    t: Accepted,
     marks: &mut [u16],
     event: Trigger,
     pairs: usize,
@@ -27,30 +27,28 @@ fn go(
     queue: &mut [u8],
     n: Progress,
 ) -> Progress
-    requires { FlatRules t.now × ((flat_view t.now).guards ≤ 16 * length marks.old) × (length next.old ≡ (flat_view t.now).machines) }
-    ensures { going result next.new vars.new outs.new queue.new ≡ turns 64 (flat_view t.now).events pairs (flat_machine (flat_view t.now)) event.0 (going n next.old vars.old outs.old queue.old) }
+    requires { ((shown t.table).guards ≤ 16 * length marks.old) × (length next.old ≡ (shown t.table).machines) }
+    ensures { going result next.new vars.new outs.new queue.new ≡ turns 64 (shown t.entry.table).events pairs (flat_machine (shown t.entry.table)) event.0 (going n next.old vars.old outs.old queue.old) }
 {
-    let events = words::word_in(t, flat::EVENTS);
+    let events = words::word_in(t.table.words, flat::EVENTS);
     let mut m = n;
     let mut e = event;
-    let mut left = 64u32;
-    while 0 < left {
+    for _ in 0..64u32 {
         m = flat_microstep::run(t, marks, e, pairs, next, vars, outs, queue, m);
-        m = effects::count_micro(m);
-        if effects::has_ended(m) {
+        m = m.one_more(Counted::Microstep);
+        if m.has_ended() {
             return m;
         }
-        e = effects::oldest(queue, events, m);
-        m = effects::pop(m);
-        left -= 1;
+        e = m.oldest(queue, events);
+        m = m.one_more(Counted::Taken);
     }
-    effects::stop_at(Stop::Microsteps, m)
+    m.stop_at(Stop::Microsteps)
 }
 
 // A macrostep from `state`, which stays as it is: words and variables afterwards are in `next` and `vars`, outputs in `outs`.
 // `queue` is scratch space.
 fn attempt(
-    t: &[u16],
+    t: Accepted,
     marks: &mut [u16],
     state: &[u16],
     event: Trigger,
@@ -60,8 +58,8 @@ fn attempt(
     outs: &mut [u16],
     queue: &mut [u8],
 ) -> Progress
-    requires { FlatRules t.now × Sized (flat_view t.now) marks.old state.now next.old vars.old queue.old }
-    ensures { going result next.new vars.new outs.new queue.new ≡ turns 64 (flat_view t.now).events pairs (flat_machine (flat_view t.now)) event.0 (going fresh (take (length next.old) state.now) (drop (length next.old) state.now) outs.old queue.old) }
+    requires { Sized (shown t.table) marks.old state.now next.old vars.old queue.old }
+    ensures { going result next.new vars.new outs.new queue.new ≡ turns 64 (shown t.entry.table).events pairs (flat_machine (shown t.entry.table)) event.0 (going fresh (take (length next.old) state.now) (drop (length next.old) state.now) outs.old queue.old) }
 {
     copies::load(next, state, 0);
     copies::load(vars, state, next.len());
@@ -74,14 +72,14 @@ fn attempt(
         vars,
         outs,
         queue,
-        effects::start(),
+        Progress::new(),
     )
 }
 
 // A macrostep from `state`, which stays as it is. The first time it is lent as many words for its outputs as `kept` has; they
 // are kept there and put back where it stops, or gives more and is gone through again with all words lent.
 fn pass(
-    t: &[u16],
+    t: Accepted,
     marks: &mut [u16],
     state: &[u16],
     event: Trigger,
@@ -91,8 +89,8 @@ fn pass(
     kept: &mut [u16],
     queue: &mut [u8],
 ) -> Progress
-    requires { FlatRules t.now × Sized (flat_view t.now) marks.old state.now next.old vars.old queue.old × (length kept.old ≤ length outputs.old) }
-    ensures { Ends (λ words. words) state.now outputs.old result (handed (λ words. words) result next.new vars.new state.now) outputs.new (macrostep (flat_view t.now).events (pairs_for (length outputs.old)) (flat_machine (flat_view t.now)) event.0 (take (length next.old) state.now) (drop (length next.old) state.now)) }
+    requires { Sized (shown t.table) marks.old state.now next.old vars.old queue.old × (length kept.old ≤ length outputs.old) }
+    ensures { Ends (λ words. words) state.now outputs.old result (handed (λ words. words) result next.new vars.new state.now) outputs.new (macrostep (shown t.entry.table).events (pairs_for (length outputs.old)) (flat_machine (shown t.entry.table)) event.0 (take (length next.old) state.now) (drop (length next.old) state.now)) }
 {
     let all = outputs.len();
     let pairs = copies::pairs_of(all);
@@ -115,7 +113,7 @@ fn pass(
             return n;
         }
         copies::load(&mut outputs[..first], kept, 0);
-        if effects::is_stopped(n) {
+        if n.is_stopped() {
             return n;
         }
         lent = all;
@@ -124,7 +122,7 @@ fn pass(
 
 // A macrostep on `state`, as `run` says it. The last four slices are scratch space.
 fn run_on(
-    t: &[u16],
+    t: Accepted,
     marks: &mut [u16],
     state: &mut [u16],
     event: Trigger,
@@ -134,11 +132,11 @@ fn run_on(
     kept: &mut [u16],
     queue: &mut [u8],
 ) -> Progress
-    requires { FlatRules t.now × Sized (flat_view t.now) marks.old state.old next.old vars.old queue.old × (length kept.old ≤ length outputs.old) }
-    ensures { Ends (λ words. words) state.old outputs.old result state.new outputs.new (macrostep (flat_view t.now).events (pairs_for (length outputs.old)) (flat_machine (flat_view t.now)) event.0 (take (length next.old) state.old) (drop (length next.old) state.old)) }
+    requires { Sized (shown t.table) marks.old state.old next.old vars.old queue.old × (length kept.old ≤ length outputs.old) }
+    ensures { Ends (λ words. words) state.old outputs.old result state.new outputs.new (macrostep (shown t.entry.table).events (pairs_for (length outputs.old)) (flat_machine (shown t.entry.table)) event.0 (take (length next.old) state.old) (drop (length next.old) state.old)) }
 {
     let n = pass(t, marks, state, event, outputs, next, vars, kept, queue);
-    if effects::is_stopped(n) {
+    if n.is_stopped() {
         return n;
     }
     copies::lay(next, state);
@@ -149,15 +147,15 @@ fn run_on(
 // A macrostep on `state`, whose first `words` words are the machines' and whose others are variables. It becomes the state after
 // the macrostep, and `outputs` gets what was given; one that stops leaves both as they were. `marks` has a bit for each guard.
 pub fn run(
-    t: &[u16],
+    t: Accepted,
     marks: &mut [u16],
     words: usize,
     state: &mut [u16],
     event: Trigger,
     outputs: &mut [u16],
 ) -> Progress
-    requires { FlatRules t.now × ((flat_view t.now).guards ≤ 16 * length marks.old) × (words ≡ (flat_view t.now).machines) × (words ≤ 24) × (words ≤ length state.old) × (length state.old ≤ words + 16) }
-    ensures { Ends (λ words. words) state.old outputs.old result state.new outputs.new (macrostep (flat_view t.now).events (pairs_for (length outputs.old)) (flat_machine (flat_view t.now)) event.0 (take words state.old) (drop words state.old)) }
+    requires { ((shown t.table).guards ≤ 16 * length marks.old) × (words ≡ (shown t.table).machines) × (words ≤ 24) × (words ≤ length state.old) × (length state.old ≤ words + 16) }
+    ensures { Ends (λ words. words) state.old outputs.old result state.new outputs.new (macrostep (shown t.entry.table).events (pairs_for (length outputs.old)) (flat_machine (shown t.entry.table)) event.0 (take words state.old) (drop words state.old)) }
 {
     let v = state.len() - words;
     let first = macrostep::first_of(outputs.len());

@@ -4,7 +4,7 @@ use mathlib.Core.Path.{◌≡◌, sym, ap₂, ◌∙◌}
 use mathlib.Core.Bool.{true}
 use mathlib.Core.List.{List, ◌++◌}
 use native.Mathlib.Omega.{arith}
-use lib.ListN.{length, get_or, set, length-append, length-set, length-drop}
+use lib.ListN.{length, get_or, set, length-append, length-set, length-drop, length-replicate}
 use lib.Seq.{take_at, length-take-le}
 use lib.Dec.{eqb}
 use Rattle.words.proofs.Tests.{eqb_yes, eqb_eq, ltb_yes, and_i, and_l, and_r}
@@ -12,7 +12,6 @@ use Rattle.words.proofs.Loops.{all_below_at, all_below_all}
 use Rattle.words.proofs.Many.{many_length, many_at}
 use Rattle.words.proofs.Lists.{set_either}
 use Rattle.effects.specs.Lent.{zeros}
-use Rattle.effects.proofs.Calls.{zeros_length}
 use Rattle.flat.specs.View.{Flat, flat_view, of_machine?}
 use Rattle.flat_rules.specs.Rules.{GoodMachine}
 use Rattle.flat_meaning.specs.State.{flat_length, flat_words_of, flat_vars_of, good_flat_word?, flat_state_of?}
@@ -74,7 +73,7 @@ module _ (f : Flat) (good : (m : ℕ) → m < f.machines → GoodMachine f m) wh
 
   start_state_lem : flat_state_of? f (flat_start_state f) ≡ true
   unfolding flat_start_state
-  start_state_lem = state_made f (flat_start_words f) (zeros f.variables) start_owned (zeros_length f.variables)
+  start_state_lem = state_made f (flat_start_words f) (zeros f.variables) start_owned (length-replicate f.variables 0)
 
 pub flat_start_is_state : FlatStartIsState
 flat_start_is_state flat r = start_state_lem (flat_view flat) r.machines

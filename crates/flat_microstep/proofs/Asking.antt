@@ -14,7 +14,7 @@ use Rattle.flat_microstep.specs.Stretch.{has?, Asked}
 use Rattle.flat_microstep.proofs.Seeking.{not_skipped}
 
 -- what is marked stays so
-abbrev pub Stays : List ℕ → List ℕ → Type 0
+abbrev Stays : List ℕ → List ℕ → Type 0
 Stays before after = (a : ℕ) → marked before a ≡ true → marked after a ≡ true
 
 module _ (k : ℕ) (before after : List ℕ) (l : k < 16 * length before) (e : after ≡ with_mark k before) where
@@ -49,9 +49,6 @@ module _ (f : Flat) (e : ℕ) where
   -- the rules of trigger e below `until` are asked for
   abbrev pub AskedBelow : List ℕ → ℕ → Type 0
   AskedBelow marks until = (j : ℕ) → j < until → has? f e j ≡ true → Asked f marks j
-
-  pub asked_none : (n from : ℕ) (marks : List ℕ) → Next (has? f e) 0 n from → AskedBelow marks from
-  asked_none n from marks first j l h = absurd (omega (arith, not_skipped (has? f e) 0 n from j first l h))
 
   module _ (n until k : ℕ) (next : Next (has? f e) until n k) where
     pub asked_one : (before after : List ℕ) → AskedBelow before until → Asked f after k → Stays before after

@@ -2,18 +2,20 @@
 use Prim.Native.Nat.{ℕ, ◌<◌, ◌≤◌}
 use mathlib.Core.Path.{◌≡◌, refl, sym, ap, ap₂, ◌∙◌}
 use mathlib.Core.Bool.{Bool, true, false, ◌&&◌}
-use mathlib.Core.Logic.{◌≢◌}
 use mathlib.Core.List.{List, []}
 use native.Mathlib.Omega.{arith}
+use lib.Dec.{eqb}
 use lib.ListN.{set}
+use Rattle.std.specs.Prelude.{Option, None, Some}
 use Rattle.words.specs.Loops.{join_up, when}
-use Rattle.words.proofs.Tests.{by_bool, eqb_yes, eqb_no}
+use Rattle.words.proofs.Tests.{by_bool, eqb_no}
 use Rattle.words.proofs.Lists.{join_up_cong}
 use Rattle.words.proofs.Skip.{join_skip}
 use Rattle.table.specs.Span.{span_at}
 use Rattle.effects.specs.Run.{Step, set_all}
 use Rattle.effects.specs.Work.{span_items}
 use Rattle.flat.specs.View.{Flat, flat_view}
+use Rattle.flat.specs.Targets.{flat_target_of}
 use Rattle.flat_rules.specs.Rules.{FlatRules}
 use Rattle.flat_meaning.specs.Guards.{in_cells, values}
 use Rattle.flat_meaning.specs.Steps.{flat_items_of, target_set, rule_step, fires?, firing, flat_machine}
@@ -35,16 +37,14 @@ module _ (f : Flat) (k : ℕ) where
         → q ≡ (known (f.first_guard k) && known (f.second_guard k))
     then_second b second r q told holds then = rw (← first, ← second, ← told, holds) then
 
-  -- rule k has target j: its machine's word is put; or it has none, and no word is
-  module _ (j : ℕ) (target : j ≡ f.target k) where
-    pub aimed : j ≢ 65535 → (m : ℕ) (before after : List ℕ) → m ≡ f.machine j → after ≡ set before m j
-        → after ≡ set_all (target_set f k) before
-    unfolding target_set
-    aimed some m before after machine put = rw (← target, eqb_no some, ← machine) put
+-- the words in which the target is current, where there is one
+abbrev pub with_target : Flat → Option ℕ → List ℕ → List ℕ
+with_target f None next = next
+with_target f (Some j) next = set next (f.machine j) j
 
-    pub not_aimed : j ≡ 65535 → (before : List ℕ) → before ≡ set_all (target_set f k) before
-    unfolding target_set
-    not_aimed none before = rw (← target, eqb_yes none) refl
+pub sets_target : (f : Flat) (k : ℕ) (next : List ℕ) → with_target f (flat_target_of (f.target k)) next ≡ set_all (target_set f k) next
+unfolding target_set
+sets_target f k next = by_bool (eqb (f.target k) 65535) (λ e. rw e refl) (λ e. rw e refl)
 
 module _ (f : Flat) (e : ℕ) (known : ℕ → Bool) where
   -- the step of rule k, where it fires

@@ -1,5 +1,5 @@
 -- Numbers that a search passes over: none of them passes a test. They are those of rules, four in a turn. Assumes nothing.
-use Prim.Native.Nat.{ℕ, ◌+◌, ◌*◌, ◌-◌, ◌<◌, ◌≤◌}
+use Prim.Native.Nat.{ℕ, ◌+◌, ◌<◌, ◌≤◌}
 use mathlib.Core.Path.{◌≡◌, refl, ap, ◌∙◌}
 use mathlib.Core.Bool.{Bool, true, false}
 use mathlib.Core.List.{List}
@@ -10,7 +10,6 @@ use Rattle.words.specs.Next.{Next}
 use Rattle.words.proofs.Tests.{last_or, clash}
 use Rattle.words.proofs.Skip.{None}
 use Rattle.flat.specs.View.{flat_view, rule_at}
-use Rattle.flat.specs.Readable.{FlatReadable}
 use Rattle.flat_microstep.specs.Stretch.{has?}
 
 module _ (p : ℕ → Bool) (k : ℕ) where
@@ -63,15 +62,3 @@ module _ (t : List ℕ) (e k n j r : ℕ) (h : k ≤ j) (place : r ≡ rule_at t
 
 pub in_turn_lem : (n j : ℕ) → j + 3 < n → j < n
 in_turn_lem n j l = omega arith
-
--- less is left
-pub four_less : (n j : ℕ) → j + 3 < n → n - (j + 4) < n - j
-four_less n j l = omega arith
-
--- the rules of a turn are there to be read
-module _ (t : List ℕ) (can : FlatReadable t) (n j r : ℕ) (inside : n ≤ (flat_view t).rules) (place : r ≡ rule_at t j) where
-  pub rule_there : j < n → FlatReadable t × (j < (flat_view t).rules) × (r ≡ rule_at t j)
-  rule_there l = (can, omega arith, place)
-
-  pub rules_there : (i : ℕ) → j + 3 < n → i ≤ 3 → FlatReadable t × (j + i < (flat_view t).rules) × (r + 6 * i ≡ rule_at t (j + i))
-  rules_there i l m = (can, omega arith, omega arith)

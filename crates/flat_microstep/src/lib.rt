@@ -8,35 +8,35 @@ ghost use Rattle.words.specs.Loops.{when};
 ghost use Rattle.words.specs.Next.{Next};
 ghost use Rattle.effects.specs.Run.{set_all};
 ghost use Rattle.effects.specs.Work.{going, do_steps};
-ghost use Rattle.flat.specs.View.{flat_view, rule_at};
-ghost use Rattle.flat.specs.Readable.{FlatReadable};
-ghost use Rattle.flat_rules.specs.Rules.{FlatRules};
+ghost use Rattle.flat.specs.Shown.{shown};
+ghost use Rattle.flat.specs.View.{rule_at};
 ghost use Rattle.flat_meaning.specs.Steps.{target_set, rule_step, firing, flat_machine};
 ghost use Rattle.marks.specs.Bits.{marked};
 ghost use Rattle.flat_microstep.specs.Stretch.{has?, Stretch, Asked};
 
-use effects::Progress;
+use effects::{Counted, Progress};
+use flat::Table;
+use flat_rules::Accepted;
 use table::Trigger;
-use words::number_in;
 
 // The most that a word can be.
 const MOST: usize = 65535;
 
 // Whether rule k, whose words begin at `at`, has trigger e.
-fn is_for(t: &[u16], e: u16, k: usize, at: usize) -> bool
-    requires { FlatReadable t.now × (k < (flat_view t.now).rules) × (at ≡ rule_at t.now k) }
-    ensures { result ≡ has? (flat_view t.now) e k }
+fn is_for(t: Table, e: u16, k: usize, at: usize) -> bool
+    requires { (k < (shown t).rules) × (at ≡ rule_at t.words.now k) }
+    ensures { result ≡ has? (shown t.entry) e k }
 {
-    words::word_in(t, at + flat::TRIGGER) == e
+    words::word_in(t.words, at + flat::TRIGGER) == e
 }
 
 // The first rule from k on, before rule n, that has trigger e; n where there is none. Four rules are looked at in a turn.
-fn seek(t: &[u16], e: u16, k: usize, n: usize) -> usize
-    requires { FlatReadable t.now × (k ≤ n) × (n ≤ (flat_view t.now).rules) }
-    ensures { Next (has? (flat_view t.now) e) k n result }
+fn seek(t: Table, e: u16, k: usize, n: usize) -> usize
+    requires { (k ≤ n) × (n ≤ (shown t).rules) }
+    ensures { Next (has? (shown t.entry) e) k n result }
 {
     let mut j = k;
-    let mut at = flat::head(t, flat::RULES_AT) + 6 * k;
+    let mut at = t.head(flat::RULES_AT) + 6 * k;
     while j + 3 < n {
         if is_for(t, e, j, at) {
             return j;
@@ -53,25 +53,23 @@ fn seek(t: &[u16], e: u16, k: usize, n: usize) -> usize
         j += 4;
         at += 24;
     }
-    while j < n {
-        if is_for(t, e, j, at) {
-            return j;
+    for i in j..n {
+        if is_for(t, e, i, at) {
+            return i;
         }
-        j += 1;
         at += 6;
     }
     n
 }
 
 // Marks both guards of rule k.
-fn ask_one(t: &[u16], marks: &mut [u16], k: usize)
-    requires { FlatRules t.now × (k < (flat_view t.now).rules) × ((flat_view t.now).guards ≤ 16 * length marks.old) }
-    ensures asked { Asked (flat_view t.now) marks.new k }
+fn ask_one(t: Accepted, marks: &mut [u16], k: usize)
+    requires { (k < (shown t.table).rules) × ((shown t.table).guards ≤ 16 * length marks.old) }
+    ensures asked { Asked (shown t.entry.table) marks.new k }
     ensures more { (a : ℕ) → marked marks.old a ≡ true → marked marks.new a ≡ true }
 {
-    let at = flat::rule_at(t, k);
-    let first = number_in(t, at + flat::FIRST_GUARD);
-    let second = number_in(t, at + flat::SECOND_GUARD);
+    let first = t.table.rule_word(k, flat::FIRST_GUARD);
+    let second = t.table.rule_word(k, flat::SECOND_GUARD);
     marks::add(marks, first);
     if first != second {
         marks::add(marks, second);
@@ -79,47 +77,46 @@ fn ask_one(t: &[u16], marks: &mut [u16], k: usize)
 }
 
 // Marks the guards of the rules that have trigger e, the first of which is `from`. The number behind the last of them.
-fn ask(t: &[u16], marks: &mut [u16], e: u16, from: usize) -> usize
-    requires { FlatRules t.now × ((flat_view t.now).guards ≤ 16 * length marks.old) × Next (has? (flat_view t.now) e) 0 (flat_view t.now).rules from }
-    ensures reaches { Stretch (flat_view t.now) e from result }
-    ensures asked { (k : ℕ) → k < (flat_view t.now).rules → has? (flat_view t.now) e k ≡ true → Asked (flat_view t.now) marks.new k }
+fn ask(t: Accepted, marks: &mut [u16], e: u16, from: usize) -> usize
+    requires { ((shown t.table).guards ≤ 16 * length marks.old) × Next (has? (shown t.table) e) 0 (shown t.table).rules from }
+    ensures reaches { Stretch (shown t.entry.table) e from result }
+    ensures asked { (k : ℕ) → k < (shown t.entry.table).rules → has? (shown t.entry.table) e k ≡ true → Asked (shown t.entry.table) marks.new k }
 {
-    let rules = flat::head(t, flat::RULES);
+    let rules = t.table.head(flat::RULES);
     let mut until = from;
     let mut k = from;
     while k < rules {
         ask_one(t, marks, k);
         until = k + 1;
-        k = seek(t, e, until, rules);
+        k = seek(t.table, e, until, rules);
     }
     until
 }
 
-// Whether rule k, whose words begin at `at`, fires for its trigger, where `marks` has the guards that are true.
-fn does_fire(t: &[u16], marks: &[u16], k: usize, at: usize) -> bool
-    requires { FlatRules t.now × (k < (flat_view t.now).rules) × (at ≡ rule_at t.now k) × ((flat_view t.now).guards ≤ 16 * length marks.now) }
-    ensures { result ≡ (marked marks.now ((flat_view t.now).first_guard k) && marked marks.now ((flat_view t.now).second_guard k)) }
+// Whether rule k fires for its trigger, where `marks` has the guards that are true.
+fn does_fire(t: Accepted, marks: &[u16], k: usize) -> bool
+    requires { (k < (shown t.table).rules) × ((shown t.table).guards ≤ 16 * length marks.now) }
+    ensures { result ≡ (marked marks.now ((shown t.entry.table).first_guard k) && marked marks.now ((shown t.entry.table).second_guard k)) }
 {
-    if !marks::has(marks, number_in(t, at + flat::FIRST_GUARD)) {
+    if !marks::has(marks, t.table.rule_word(k, flat::FIRST_GUARD)) {
         return false;
     }
-    marks::has(marks, number_in(t, at + flat::SECOND_GUARD))
+    marks::has(marks, t.table.rule_word(k, flat::SECOND_GUARD))
 }
 
-// The target of rule k, whose words begin at `at`, is to be current in its machine, where it has one.
-fn aim(t: &[u16], k: usize, at: usize, next: &mut [u16])
-    requires { FlatRules t.now × (k < (flat_view t.now).rules) × (at ≡ rule_at t.now k) }
-    ensures { next.new ≡ set_all (target_set (flat_view t.now) k) next.old }
+// The target of rule k is to be current in its machine, where it has one.
+fn aim(t: Accepted, k: usize, next: &mut [u16])
+    requires { k < (shown t.table).rules }
+    ensures { next.new ≡ set_all (target_set (shown t.entry.table) k) next.old }
 {
-    let j = number_in(t, at + flat::TARGET);
-    if j != flat::NONE {
-        words::put(next, flat::machine_of(t, j), j as u16);
+    if let Some(j) = t.table.target(k) {
+        words::put(next, t.table.machine_of(j), j as u16);
     }
 }
 
 // Rule k, where it fires for its trigger: it is counted, its target is to be current, and its items run.
 fn fire_one(
-    t: &[u16],
+    t: Accepted,
     marks: &[u16],
     k: usize,
     pairs: usize,
@@ -129,29 +126,28 @@ fn fire_one(
     queue: &mut [u8],
     n: Progress,
 ) -> Progress
-    requires { FlatRules t.now × (k < (flat_view t.now).rules) × ((flat_view t.now).guards ≤ 16 * length marks.now) }
-    ensures { going result next.new vars.new outs.new queue.new ≡ do_steps pairs (when (marked marks.now ((flat_view t.now).first_guard k) && marked marks.now ((flat_view t.now).second_guard k)) (rule_step (flat_view t.now) k)) (going n next.old vars.old outs.old queue.old) }
+    requires { (k < (shown t.table).rules) × ((shown t.table).guards ≤ 16 * length marks.now) }
+    ensures { going result next.new vars.new outs.new queue.new ≡ do_steps pairs (when (marked marks.now ((shown t.entry.table).first_guard k) && marked marks.now ((shown t.entry.table).second_guard k)) (rule_step (shown t.entry.table) k)) (going n next.old vars.old outs.old queue.old) }
 {
-    let at = flat::rule_at(t, k);
-    if !does_fire(t, marks, k, at) {
+    if !does_fire(t, marks, k) {
         return n;
     }
-    aim(t, k, at, next);
+    aim(t, k, next);
     effects::run_span(
-        t,
+        t.table.words,
         flat::ITEMS_AT,
-        at + flat::DOES,
+        t.table.rule_at(k) + flat::DOES,
         pairs,
         vars,
         outs,
         queue,
-        effects::count_fire(n),
+        n.one_more(Counted::Fired),
     )
 }
 
 // The rules that fire for trigger e, in order. They lie from rule `from` on and before rule `until`.
 fn fire_all(
-    t: &[u16],
+    t: Accepted,
     marks: &[u16],
     e: u16,
     from: usize,
@@ -163,14 +159,14 @@ fn fire_all(
     queue: &mut [u8],
     n: Progress,
 ) -> Progress
-    requires { FlatRules t.now × ((flat_view t.now).guards ≤ 16 * length marks.now) × Stretch (flat_view t.now) e from until }
-    ensures { going result next.new vars.new outs.new queue.new ≡ do_steps pairs (firing (flat_view t.now) e (marked marks.now)) (going n next.old vars.old outs.old queue.old) }
+    requires { ((shown t.table).guards ≤ 16 * length marks.now) × Stretch (shown t.table) e from until }
+    ensures { going result next.new vars.new outs.new queue.new ≡ do_steps pairs (firing (shown t.entry.table) e (marked marks.now)) (going n next.old vars.old outs.old queue.old) }
 {
     let mut m = n;
     let mut k = from;
     while k < until {
         m = fire_one(t, marks, k, pairs, next, vars, outs, queue, m);
-        k = seek(t, e, k + 1, until);
+        k = seek(t.table, e, k + 1, until);
     }
     m
 }
@@ -178,7 +174,7 @@ fn fire_all(
 // One microstep for trigger e, from the words of `next` to those of `next`. `marks` is scratch space. No rule has a trigger that is
 // more than a word.
 pub fn run(
-    t: &[u16],
+    t: Accepted,
     marks: &mut [u16],
     e: Trigger,
     pairs: usize,
@@ -188,15 +184,15 @@ pub fn run(
     queue: &mut [u8],
     n: Progress,
 ) -> Progress
-    requires { FlatRules t.now × ((flat_view t.now).guards ≤ 16 * length marks.old) × (length next.old ≡ (flat_view t.now).machines) }
-    ensures { going result next.new vars.new outs.new queue.new ≡ do_steps pairs (flat_machine (flat_view t.now) e.0 next.old vars.old) (going n next.old vars.old outs.old queue.old) }
+    requires { ((shown t.table).guards ≤ 16 * length marks.old) × (length next.old ≡ (shown t.table).machines) }
+    ensures { going result next.new vars.new outs.new queue.new ≡ do_steps pairs (flat_machine (shown t.entry.table) e.0 next.old vars.old) (going n next.old vars.old outs.old queue.old) }
 {
-    let number = effects::wide(e.0);
+    let number = e.0 as usize;
     if MOST < number {
         return n;
     }
     let trigger = number as u16;
-    let from = seek(t, trigger, 0, flat::head(t, flat::RULES));
+    let from = seek(t.table, trigger, 0, t.table.head(flat::RULES));
     copies::clear(marks, 0);
     let until = ask(t, marks, trigger, from);
     flat_guards::evaluate(t, next, vars, marks);

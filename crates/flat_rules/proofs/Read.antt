@@ -1,51 +1,17 @@
--- Tests on numbers that are read are the tests of specs/Tests.antt on what the table shows; and where they are read is inside it.
--- Assumes nothing.
-use Prim.Native.Nat.{ℕ, ◌+◌, ◌*◌, ◌-◌, ◌<◌, ◌≤◌}
+-- Tests on numbers that are read are the tests of specs/Tests.antt on what the table shows. Assumes nothing.
+use Prim.Native.Nat.{ℕ, ◌+◌, ◌-◌, ◌<◌, ◌≤◌}
 use mathlib.Core.Path.{◌≡◌, refl, ap, ◌∙◌}
-use mathlib.Core.Bool.{Bool, true, ◌&&◌}
-use mathlib.Core.Logic.{◌≢◌}
+use mathlib.Core.Bool.{Bool, ◌&&◌}
 use mathlib.Core.List.{List}
-use native.Mathlib.Omega.{arith}
 use lib.Dec.{eqb, ltb}
 use lib.ListN.{get_or}
-use mir.Syntax.{w64}
-use mir.Val.{Fits}
-use Rattle.words.proofs.Tests.{eqb_yes, eqb_no, ltb_yes, ltb_no}
+use Rattle.words.proofs.Tests.{ltb_yes, ltb_no}
 use Rattle.table.specs.Span.{span_at, inside?}
-use Rattle.table.specs.Triple.{triple_at}
-use Rattle.table.specs.Rows.{good_item_in?}
 use Rattle.flat.specs.View.{Flat, flat_view, literal_at, rule_at}
 use Rattle.flat_rules.specs.Tests.{good_machine?, good_flat_state?, good_machines?, good_flat_literal?, guard_literal?, flat_literal_kept}
-use Rattle.flat_rules.specs.Tests.{flat_item_kept, good_flat_target?, good_names?, good_rule?}
-
--- ---- where words are
--- of three and six words
-module _ (r n : ℕ) (l : r + 2 < n) where
-  pub first_of_three : r < n
-  first_of_three = omega arith
-
-  pub second_of_three : r + 1 < n
-  second_of_three = omega arith
-
-module _ (r n : ℕ) (l : r + 5 < n) where
-  pub span_of_six : r + 3 < n
-  span_of_six = omega arith
-
-  pub spans_of_six : r + 3 + 1 < n
-  spans_of_six = omega arith
-
--- a number counted from the first of a span, below its count
-pub in_span : (first count size i m n : ℕ) → m ≡ first → n ≡ count → first + count ≤ size → i < n → m + i < size
-in_span first count size i m n e d l h = omega arith
-
--- where a number below a word is added to a word
-pub place_fits : (a i n : ℕ) → a < 65536 → i < n → n < 65536 → Fits w64 (a + i)
-place_fits a i n l m h = record { fits = omega arith }
+use Rattle.flat_rules.specs.Tests.{good_flat_target?, good_names?, good_rule?}
 
 -- ---- rule 14
-pub behind_machines : (p n machines states : ℕ) → n ≡ machines → n ≤ p → p < machines + states → p - n < states
-behind_machines p n machines states e l m = omega arith
-
 module _ (f : Flat) (p n : ℕ) (e : n ≡ f.machines) (r : Bool) where
   pub machine_read : p < n → r ≡ good_machine? f p → r ≡ good_machines? f p
   unfolding good_machines?
@@ -82,24 +48,7 @@ module _ (t : List ℕ) (k i place kind a b : ℕ) (begins : place ≡ literal_a
       let arm : r ≡ good_flat_literal? (flat_view t) k kind a b = rw (ltb_no kind 2 h, ltb_no kind 4 l) told in
       arm ∙ is_literal
 
--- ---- rule 17
-pub item_read : (t : List ℕ) (i place a b v : ℕ) (r : Bool) → a ≡ (flat_view t).signals → b ≡ (flat_view t).outputs
-    → v ≡ (flat_view t).variables → place ≡ get_or t 16 0 + 3 * i
-    → r ≡ good_item_in? (record { signals = a; outputs = b; variables = v }) (triple_at t place) → r ≡ flat_item_kept (flat_view t) i
-item_read t i place a b v r x y z begins told = told ∙ rw (x, y, z, begins) refl
-
 -- ---- rule 18
-module _ (f : Flat) (k : ℕ) where
-  pub no_target_read : (w : ℕ) → w ≡ f.target k → w ≡ 65535 → true ≡ good_flat_target? f k
-  no_target_read w e none = rw (← e, eqb_yes none) refl
-
-  pub target_read : (w n : ℕ) → w ≡ f.target k → w ≢ 65535 → n ≡ f.states → ltb w n ≡ good_flat_target? f k
-  target_read w n e some d = rw (← e, eqb_no some, d) refl
-
-  pub names_read : (w a b e s n : ℕ) (r q : Bool) → w ≡ f.trigger k → a ≡ f.first_guard k → b ≡ f.second_guard k
-      → e ≡ f.events → s ≡ f.signals → n ≡ f.guards → q ≡ (ltb a n && ltb b n) → r ≡ (ltb w (e + s) && q) → r ≡ good_names? f k
-  names_read w a b e s n r q x y z u v m guards told = told ∙ rw (guards, x, y, z, u, v, m) refl
-
 pub rule_read : (t : List ℕ) (k place : ℕ) (names items target q r : Bool) → place ≡ rule_at t k → names ≡ good_names? (flat_view t) k
     → items ≡ inside? (span_at t (place + 3)) (get_or t 10 0) → target ≡ good_flat_target? (flat_view t) k → q ≡ (items && target)
     → r ≡ (names && q) → r ≡ good_rule? (flat_view t) k

@@ -3,8 +3,8 @@
 #![tactic(auto)]
 
 ghost use Rattle.std.specs.Prelude.{◌≡◌, ◌+◌, ◌<◌, length};
+ghost use Rattle.chart.specs.Shown.{shown};
 ghost use Rattle.chart.specs.View.{view};
-ghost use Rattle.chart_rules.specs.Rules.{ChartRules};
 ghost use Rattle.states.specs.Cells.{cells};
 ghost use Rattle.chart_meaning.specs.State.{or_states};
 ghost use Rattle.flatten_meaning.specs.Numbers.{and_states};
@@ -15,15 +15,16 @@ ghost use Rattle.flatten_head.specs.Sizes.{SizesOf};
 ghost use Rattle.flatten.specs.Numbers.{Numbers, sections};
 ghost use Rattle.flatten.specs.Wrote.{Wrote};
 
-use answers::Flattening;
+use chart::Table;
+use chart_rules::Accepted;
 use flatten_guards::Pen;
 use flatten_head::Sizes;
 use states::StateSet;
-use table::{Refusal, Verdict};
+use table::Refusal;
 
 // How many records of each kind the flat table has: guards and rules are counted by laying them into an empty room.
 fn sizes_of(
-    t: &[u16],
+    t: Accepted,
     asked: StateSet,
     ands: &[u16],
     actives: &[u16],
@@ -32,8 +33,8 @@ fn sizes_of(
     machines: usize,
     states: usize,
 ) -> Sizes
-    requires { ChartRules t.now × Numbers (view t.now) (cells asked) ands.now actives.now takens.now first × (machines ≡ or_states (view t.now)) × (states ≡ and_states (view t.now)) }
-    ensures { SizesOf (flattened (view t.now)) result }
+    requires { Numbers (shown t.table) (cells asked) ands.now actives.now takens.now first × (machines ≡ or_states (shown t.table)) × (states ≡ and_states (shown t.table)) }
+    ensures { SizesOf (flattened (shown t.entry.table)) result }
 {
     let mut nothing = [0u16; 0];
     let start = Pen { at: 0, first: 0 };
@@ -60,7 +61,7 @@ fn sizes_of(
 
 // The guards, the literals, the items and the rules.
 fn lay_sections(
-    t: &[u16],
+    t: Accepted,
     asked: StateSet,
     ands: &[u16],
     actives: &[u16],
@@ -69,9 +70,9 @@ fn lay_sections(
     room: &mut [u16],
     at: usize,
 ) -> usize
-    requires { ChartRules t.now × Numbers (view t.now) (cells asked) ands.now actives.now takens.now first × (at < 1000) }
-    ensures next { result ≡ at + length (sections (flattened (view t.now))) }
-    ensures room { room.new ≡ lay at (sections (flattened (view t.now))) room.old }
+    requires { Numbers (shown t.table) (cells asked) ands.now actives.now takens.now first × (at < 1000) }
+    ensures next { result ≡ at + length (sections (flattened (shown t.entry.table))) }
+    ensures room { room.new ≡ lay at (sections (flattened (shown t.entry.table))) room.old }
 {
     let start = Pen { at: at, first: 0 };
     let spans = flatten_guards::lay_guards(
@@ -84,15 +85,14 @@ fn lay_sections(
     let literals = flatten_guards::lay_guards(
         false, t, asked, ands, actives, takens, first, room, behind,
     );
-    let rules = flatten_head::lay_items(t, room, literals.at);
+    let rules = flatten_head::lay_items(t.table.words, room, literals.at);
     flatten_rules::lay_rules(t, ands, actives, takens, first, room, rules)
 }
 
 // Lays the flat table of an accepted chart into the room, whose end it may pass, and says how many words it has.
-fn lay_table(t: &[u16], room: &mut [u16]) -> u32
-    requires { ChartRules t.now }
-    ensures long { result ≡ length (encode (flattened (view t.now))) }
-    ensures room { room.new ≡ lay 0 (encode (flattened (view t.now))) room.old }
+fn lay_table(t: Accepted, room: &mut [u16]) -> u32
+    ensures long { result ≡ length (encode (flattened (shown t.entry.table))) }
+    ensures room { room.new ≡ lay 0 (encode (flattened (shown t.entry.table))) room.old }
 {
     let mut ors = [0u16; 48];
     let mut ands = [0u16; 48];
@@ -109,23 +109,20 @@ fn lay_table(t: &[u16], room: &mut [u16]) -> u32
 }
 
 // The flat table of an accepted chart, where the room is large enough.
-fn flatten_accepted(t: &[u16], room: &mut [u16]) -> Flattening
-    requires { ChartRules t.now }
-    ensures { Wrote t.now room.old result room.new }
+fn flatten_accepted(t: Accepted, room: &mut [u16]) -> Result<u32, Refusal>
+    ensures { Wrote t.entry.table.words.now room.old result room.new }
 {
     if room.len() < flatten_head::room_needed(t) {
-        return Flattening::Refused(Refusal::Room);
+        return Err(Refusal::Room);
     }
-    Flattening::Done(lay_table(t, room))
+    Ok(lay_table(t, room))
 }
 
 // The flat table of a chart into `room`, as document 01 says it for anything at all.
-pub fn flatten(t: &[u16], room: &mut [u16]) -> Flattening
+pub fn flatten(t: &[u16], room: &mut [u16]) -> Result<u32, Refusal>
     ensures { Wrote t.now room.old result room.new }
 {
-    let verdict = chart_check::check(t);
-    match verdict {
-        Verdict::Refused(refusal) => Flattening::Refused(refusal),
-        Verdict::Done => flatten_accepted(t, room),
-    }
+    chart_check::check(t)?;
+    let table = Table { words: t };
+    flatten_accepted(Accepted { table }, room)
 }

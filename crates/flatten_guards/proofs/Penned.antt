@@ -1,5 +1,5 @@
 -- Guards laid into a section, one behind the other. Assumes nothing.
-use Prim.Native.Nat.{ℕ, ◌+◌, ◌*◌, ◌-◌, ◌/◌, ◌≤◌}
+use Prim.Native.Nat.{ℕ, ◌+◌, ◌*◌, ◌-◌, ◌/◌}
 use mathlib.Core.Path.{◌≡◌, refl, sym, ap, ap₂, ◌∙◌}
 use mathlib.Core.Bool.{Bool, true, false}
 use mathlib.Core.List.{List, [], ◌∷◌, ◌++◌, append-nil}
@@ -14,11 +14,11 @@ use Rattle.flat.specs.declared.FlatLiteral.{FlatLiteral}
 use Rattle.flatten_meaning.specs.Encoded.{literal_row, span_row, spans_from}
 use Rattle.flatten_meaning.proofs.Rows.{rows_length}
 use Rattle.flatten_laying.specs.Lay.{lay}
-use Rattle.flatten_laying.proofs.Lay.{lay_append, lay_length}
+use Rattle.flatten_laying.proofs.Lay.{lay_append}
 use Rattle.flatten_literals.specs.Told.{Told}
 use Rattle.flatten_guards.specs.declared.Pen.{Pen}
 use Rattle.flatten_guards.specs.Parts.{literals_in, part, moved}
-use Rattle.flatten_guards.specs.Penned.{Penned, stepped, Within}
+use Rattle.flatten_guards.specs.Penned.{Penned, stepped}
 
 -- ---- the words of guards, and of others behind them
 literals_append : (gs hs : List (List FlatLiteral)) → literals_in (gs ++ hs) ≡ literals_in gs ++ literals_in hs
@@ -90,10 +90,6 @@ module _ {spans : Bool} {p : Pen} {old : List ℕ} where
       → Penned spans (join_up f (k + 1)) p old r new
   penned_next f k x y = rw (add-one k) (penned_both (join_up f k) (f k) x y)
 
-  pub penned_length : {q : Pen} {new : List ℕ} (gs : List (List FlatLiteral)) → Penned spans gs p old q new
-      → length new ≡ length old
-  penned_length gs x = ap length x.laid ∙ lay_length p.at (part spans p.first gs) old
-
 -- ---- one guard
 size_of : (g : List FlatLiteral) → length (joined literal_row g) ≡ 3 * length g
 size_of g = rows_length literal_row 3 (λ l. refl) g
@@ -125,9 +121,3 @@ module _ {p q : Pen} {old new : List ℕ} (g : List FlatLiteral) where
         pen = e ∙ ap (λ (y : ℕ). record { at = p.at + 2; first = y }) first;
         laid = l ∙ ap (λ (n : ℕ). lay p.at (p.first ∷ n ∷ []) old) size;
       }
-
--- how far the pen goes
-pub within_step : (p : Pen) (words literals : ℕ) {q : Pen} {at size : ℕ} → q ≡ stepped p at size → at ≤ p.at + words
-    → size ≤ literals
-    → Within words literals p q
-within_step p words literals e a b = rw e (a, omega arith)

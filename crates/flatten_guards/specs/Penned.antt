@@ -1,10 +1,12 @@
 -- Guards laid into one of the two sections: where the pen stands then, and what the room is.
-use Rattle.std.specs.Prelude.{ℕ, ◌+◌, ◌≤◌, ◌≡◌, Bool, not, List}
+use Rattle.std.specs.Prelude.{ℕ, ◌+◌, ◌*◌, ◌<◌, ◌≤◌, ◌≡◌, Bool, not, List}
+use Rattle.std.specs.Borrow.{MutBor}
 use Rattle.words.specs.Loops.{when}
 use Rattle.flat.specs.declared.FlatLiteral.{FlatLiteral}
 use Rattle.chart.specs.View.{Chart}
 use Rattle.flatten_meaning.specs.Flattened.{asked, active_literals, bare, taken_literals, forks, entered_literals}
 use Rattle.flatten_laying.specs.Lay.{lay}
+use Rattle.flatten_literals.specs.Told.{Told}
 use Rattle.flatten_guards.specs.declared.Pen.{Pen}
 use Rattle.flatten_guards.specs.Parts.{part, moved}
 
@@ -12,6 +14,12 @@ pub record Penned (spans : Bool) (gs : List (List FlatLiteral)) (p : Pen) (befor
     (after : List ℕ) : Type 0 where
   pub pen : q ≡ moved spans gs p
   pub laid : after ≡ lay p.at (part spans p.first gs) before
+
+-- Each call that begins below word 400000 lays these literals, which are `most` at most. `call` says what a call may leave.
+abbrev pub Puts : (MutBor (List ℕ) → ℕ → ℕ → MutBor (List ℕ) → Type 0) → List FlatLiteral → ℕ → Type 0
+Puts call g most =
+    (room after : MutBor (List ℕ)) (at end : ℕ) → at < 400000 → call room at end after
+    → Told at g room.now end after.now × (end ≤ at + 3 * most)
 
 -- The pen at word `at`, with `size` literals more behind it.
 abbrev pub stepped : Pen → ℕ → ℕ → Pen

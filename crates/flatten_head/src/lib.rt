@@ -4,9 +4,8 @@
 
 ghost use Rattle.std.specs.Prelude.{◌≡◌, [], ◌∷◌, ◌+◌, ◌-◌, ◌*◌, ◌/◌, ◌<◌, ◌≤◌, length};
 ghost use Rattle.words.specs.Loops.{join_up, when};
+ghost use Rattle.chart.specs.Shown.{shown};
 ghost use Rattle.chart.specs.View.{view};
-ghost use Rattle.chart.specs.Readable.{Readable};
-ghost use Rattle.chart_rules.specs.Rules.{ChartRules};
 ghost use Rattle.flatten_meaning.specs.Numbers.{and_states};
 ghost use Rattle.flatten_meaning.specs.Room.{asked_literals, room_needed};
 ghost use Rattle.flatten_meaning.specs.Flattened.{flattened};
@@ -17,6 +16,9 @@ ghost use Rattle.flatten_laying.specs.Lay.{lay};
 ghost use Rattle.flatten_laying.specs.Laid.{Laid};
 ghost use Rattle.flatten_head.specs.Sizes.{SizesOf, PlacesOf, heading};
 ghost use Rattle.flatten_head.specs.Named.{of?, named};
+
+use chart::Table;
+use chart_rules::Accepted;
 
 // How many machines, states, guards, literals and rules a flat table has.
 #[derive(Clone, Copy)]
@@ -40,30 +42,26 @@ pub struct Places {
 }
 
 // The sum of the transitions' literal counts.
-fn asked_literals(t: &[u16]) -> usize
-    requires { ChartRules t.now }
-    ensures is { result ≡ asked_literals (view t.now) }
+fn asked_literals(t: Accepted) -> usize
+    ensures is { result ≡ asked_literals (shown t.entry.table) }
     ensures few { result ≤ 384 }
 {
-    let n = words::number(t, chart::TRANSITIONS);
     let mut sum = 0;
-    let mut k = 0;
-    while k < n {
-        sum += chart::transition_word(t, k, chart::ASKS + 1);
-        k += 1;
+    for k in 0..words::number(t.table.words, chart::TRANSITIONS) {
+        sum += t.table.transition_word(k, chart::ASKS + 1);
     }
     sum
 }
 
 // How many and-states there are: the states that are no or-states.
-fn and_states(t: &[u16]) -> usize
-    requires { ChartRules t.now }
-    ensures is { result ≡ and_states (view t.now) }
+#[tactic(auto, using(flatten_meaning::proofs::Machines::all_states))]
+fn and_states(t: Accepted) -> usize
+    ensures is { result ≡ and_states (shown t.entry.table) }
     ensures few { result ≤ 48 }
 {
     let mut ors = [0u16; 48];
     let machines = chart_active::or_ranks(t, &mut ors);
-    words::number(t, chart::STATES) - machines
+    words::number(t.table.words, chart::STATES) - machines
 }
 
 // The product of two counts.
@@ -88,30 +86,34 @@ fn pairs_of(k: usize) -> usize
 }
 
 // The room that the flat table of an accepted chart needs, by document 01's formulas.
-pub fn room_needed(t: &[u16]) -> usize
-    requires { ChartRules t.now }
-    ensures { result ≡ room_needed (view t.now) }
+pub fn room_needed(t: Accepted) -> usize
+    ensures { result ≡ room_needed (shown t.entry.table) }
 {
-    let k = words::number(t, chart::TRANSITIONS);
+    let k = words::number(t.table.words, chart::TRANSITIONS);
     let a = and_states(t);
     let both = product(k, a);
     let guards = a + k + both;
     let literals = 2 * a + k + asked_literals(t) + pairs_of(k) + 2 * both;
     let rules = k + 2 * both;
-    let items = words::number(t, chart::ITEMS);
-    18 + words::number(t, chart::STATES) + 2 * guards + 3 * literals + 3 * items + 6 * rules
+    let items = words::number(t.table.words, chart::ITEMS);
+    18 + words::number(t.table.words, chart::STATES)
+        + 2 * guards
+        + 3 * literals
+        + 3 * items
+        + 6 * rules
 }
 
 // Where the sections of a flat table of these sizes begin.
-fn places_of(t: &[u16], s: Sizes) -> Places
-    requires { ChartRules t.now × SizesOf (flattened (view t.now)) s }
-    ensures { PlacesOf (flattened (view t.now)) result }
+#[tactic(auto, using(crate::proofs::Sections::total_small, crate::proofs::Sections::items_count), unfolding(flatten_meaning::specs::Encoded::total, flatten_meaning::specs::Encoded::rules_at, flatten_meaning::specs::Encoded::items_at, flatten_meaning::specs::Encoded::literals_at, flatten_meaning::specs::Encoded::guards_at, flatten_meaning::specs::Encoded::states_at))]
+fn places_of(t: Accepted, s: Sizes) -> Places
+    requires { SizesOf (flattened (shown t.table)) s }
+    ensures { PlacesOf (flattened (shown t.entry.table)) result }
 {
     let states = 18 + words::wide(s.machines);
     let guards = states + words::wide(s.states);
     let literals = guards + 2 * words::wide(s.guards);
     let items = literals + 3 * words::wide(s.literals);
-    let rules = items + 3 * words::number(t, chart::ITEMS);
+    let rules = items + 3 * words::number(t.table.words, chart::ITEMS);
     let total = rules + 6 * words::wide(s.rules);
     Places {
         states: states as u16,
@@ -154,16 +156,17 @@ fn lay_places(p: Places, room: &mut [u16])
 }
 
 // The header.
-fn lay_header(t: &[u16], s: Sizes, room: &mut [u16])
-    requires { ChartRules t.now × SizesOf (flattened (view t.now)) s }
-    ensures { room.new ≡ lay 0 (header (flattened (view t.now))) room.old }
+fn lay_header(t: Accepted, s: Sizes, room: &mut [u16])
+    requires { SizesOf (flattened (shown t.table)) s }
+    ensures { room.new ≡ lay 0 (header (flattened (shown t.entry.table))) room.old }
 {
     let p = places_of(t, s);
-    lay_counts(t, s, p.total, room);
+    lay_counts(t.table.words, s, p.total, room);
     lay_places(p, room);
 }
 
 // A word more, where `is` says so.
+#[tactic(auto, using(flatten_laying::proofs::Laid::laid_none), unfolding(flatten_laying::specs::Lay::lay))]
 fn put_if(room: &mut [u16], at: usize, is: bool, word: u16) -> usize
     requires { at < 1000 }
     ensures { Laid at (when is word) room.old result room.new }
@@ -176,60 +179,59 @@ fn put_if(room: &mut [u16], at: usize, is: bool, word: u16) -> usize
 }
 
 // Whether state k is of the and-states or, where `ands` does not hold, of the or-states.
-fn is_of(t: &[u16], ands: bool, k: usize) -> bool
-    requires { Readable t.now × (k < (view t.now).states) }
-    ensures { result ≡ of? ands (view t.now) k }
+fn is_of(t: Table, ands: bool, k: usize) -> bool
+    requires { k < (shown t).states }
+    ensures { result ≡ of? ands (shown t.entry) k }
 {
-    if ands {
-        return chart::is_and(t, k);
-    }
-    !chart::is_and(t, k)
+    t.is_and(k) == ands
 }
 
 // For each of the and-states, or of the or-states, the number of the state that its word `field` names.
 fn lay_named(
-    t: &[u16],
+    t: Accepted,
     ands: bool,
     field: usize,
     numbers: &[u16],
     room: &mut [u16],
     at: usize,
 ) -> usize
-    requires { ChartRules t.now × (field < 7) × (at < 900) }
-    ensures { Laid at (join_up (named t.now ands field numbers.now) (view t.now).states) room.old result room.new }
+    requires { (field < 7) × (at < 900) }
+    ensures { Laid at (join_up (named t.entry.table.words.now ands field numbers.now) (shown t.entry.table).states) room.old result room.new }
 {
-    let n = words::number(t, chart::STATES);
     let mut next = at;
-    let mut j = 0;
-    while j < n {
-        let other = chart::state_word(t, j, field);
-        next = put_if(room, next, is_of(t, ands, j), words::word(numbers, other));
-        j += 1;
+    for j in 0..words::number(t.table.words, chart::STATES) {
+        let other = t.table.state_word(j, field);
+        next = put_if(
+            room,
+            next,
+            is_of(t.table, ands, j),
+            words::word(numbers, other),
+        );
     }
     next
 }
 
 // The machines' section: the flat state of each or-state's initial child.
-fn lay_initials(t: &[u16], ands: &[u16], room: &mut [u16], at: usize) -> usize
-    requires { ChartRules t.now × AndRanks (view t.now) ands.now × (at < 900) }
-    ensures { Laid at (flattened (view t.now)).initials room.old result room.new }
+fn lay_initials(t: Accepted, ands: &[u16], room: &mut [u16], at: usize) -> usize
+    requires { AndRanks (shown t.table) ands.now × (at < 900) }
+    ensures { Laid at (flattened (shown t.entry.table)).initials room.old result room.new }
 {
     lay_named(t, false, chart::INITIAL, ands, room, at)
 }
 
 // The states' section: the machine of each and-state's parent.
-fn lay_owners(t: &[u16], ors: &[u16], room: &mut [u16], at: usize) -> usize
-    requires { ChartRules t.now × Ranks (view t.now) ors.now × (at < 900) }
-    ensures { Laid at (flattened (view t.now)).owners room.old result room.new }
+fn lay_owners(t: Accepted, ors: &[u16], room: &mut [u16], at: usize) -> usize
+    requires { Ranks (shown t.table) ors.now × (at < 900) }
+    ensures { Laid at (flattened (shown t.entry.table)).owners room.old result room.new }
 {
     lay_named(t, true, chart::PARENT, ors, room, at)
 }
 
 // The header, the machines and the states.
-pub fn lay_heading(t: &[u16], ors: &[u16], ands: &[u16], s: Sizes, room: &mut [u16]) -> usize
-    requires { ChartRules t.now × Ranks (view t.now) ors.now × AndRanks (view t.now) ands.now × SizesOf (flattened (view t.now)) s }
-    ensures next { result ≡ length (heading (flattened (view t.now))) }
-    ensures room { room.new ≡ lay 0 (heading (flattened (view t.now))) room.old }
+pub fn lay_heading(t: Accepted, ors: &[u16], ands: &[u16], s: Sizes, room: &mut [u16]) -> usize
+    requires { Ranks (shown t.table) ors.now × AndRanks (shown t.table) ands.now × SizesOf (flattened (shown t.table)) s }
+    ensures next { result ≡ length (heading (flattened (shown t.entry.table))) }
+    ensures room { room.new ≡ lay 0 (heading (flattened (shown t.entry.table))) room.old }
 {
     lay_header(t, s, room);
     let states = lay_initials(t, ands, room, 18);

@@ -6,8 +6,6 @@ use mathlib.Core.List.{List, [], ◌∷◌, ◌++◌, append_assoc}
 use native.Mathlib.Nat.{add-zero, le_refl}
 use native.Mathlib.Numerals.{add-one}
 use native.Mathlib.Omega.{arith}
-use mir.Syntax.{w64}
-use mir.Val.{Fits}
 use lib.ListN.{length, get_or, set, take, drop, length-set}
 use lib.Seq.{sets, sets-eq, take-set-le, drop-set-lt, length-take-le, take-append_seam, drop_at, get_or-take, get_or-drop}
 use Rattle.words.specs.Loops.{many}
@@ -30,10 +28,6 @@ pub lay_more : (at : ℕ) (room ws : List ℕ) (w : ℕ) {mid new : List ℕ} �
     → new ≡ set mid (at + length ws) w → new ≡ lay at (ws ++ (w ∷ [])) room
 unfolding lay
 lay_more at room ws w p q = lay_both at room ws (w ∷ []) p q
-
--- a place some words further is still a number
-pub place_fits : {at : ℕ} (k : ℕ) → at < 1000000 → k < 1000000 → Fits w64 (at + k)
-place_fits k h l = record { fits = omega arith }
 
 -- ---- what is changed, and what is not
 pub lay_length : (at : ℕ) (ws room : List ℕ) → length (lay at ws room) ≡ length room
@@ -114,9 +108,3 @@ module _ (f : ℕ → ℕ) (at from i count : ℕ) (room : List ℕ) where
   pub lay_last : count ≤ i → lay (at + i) (many f (from + i) (count - i)) room ≡ room
   unfolding lay
   lay_last h = let e : count - i ≡ 0 = omega arith in ap (λ (n : ℕ). lay (at + i) (many f (from + i) n) room) e
-
-pub lay_first : (f : ℕ → ℕ) (at from count : ℕ) (room : List ℕ)
-    → lay at (many f from count) room ≡ lay (at + 0) (many f (from + 0) (count - 0)) room
-lay_first f at from count room =
-    let e : count ≡ count - 0 = omega arith in
-    ap (λ (n : ℕ). lay at (many f from n) room) e ∙ rw (add-zero at, add-zero from) refl

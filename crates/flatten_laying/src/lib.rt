@@ -2,9 +2,21 @@
 // the room nothing is written, so that an empty room serves to count.
 #![tactic(auto)]
 
-ghost use Rattle.std.specs.Prelude.{◌≡◌, [], ◌∷◌, ◌+◌, ◌<◌, get_or};
+ghost use Rattle.std.specs.Prelude.{◌≡◌, [], ◌∷◌, ◌+◌, ◌<◌, length, get_or};
 ghost use Rattle.words.specs.Loops.{many};
 ghost use Rattle.flatten_laying.specs.Lay.{lay};
+
+// Words, one behind the other.
+fn put_all(room: &mut [u16], at: usize, words: &[u16]) -> usize
+    requires { (at < 1000000) × (length words.now < 1000000) }
+    ensures next { result ≡ at + length words.now }
+    ensures room { room.new ≡ lay at words.now room.old }
+{
+    for (i, w) in words.iter().enumerate() {
+        words::put(room, at + i, *w);
+    }
+    at + words.len()
+}
 
 // A literal or an item: kind, a, b.
 pub fn put_triple(room: &mut [u16], at: usize, kind: u16, a: u16, b: u16) -> usize
@@ -12,10 +24,7 @@ pub fn put_triple(room: &mut [u16], at: usize, kind: u16, a: u16, b: u16) -> usi
     ensures next { result ≡ at + 3 }
     ensures room { room.new ≡ lay at (kind ∷ a ∷ b ∷ []) room.old }
 {
-    words::put(room, at, kind);
-    words::put(room, at + 1, a);
-    words::put(room, at + 2, b);
-    at + 3
+    put_all(room, at, &[kind, a, b])
 }
 
 // A guard: the first of its literals, and their count.
@@ -24,9 +33,7 @@ pub fn put_span(room: &mut [u16], at: usize, first: u16, count: u16) -> usize
     ensures next { result ≡ at + 2 }
     ensures room { room.new ≡ lay at (first ∷ count ∷ []) room.old }
 {
-    words::put(room, at, first);
-    words::put(room, at + 1, count);
-    at + 2
+    put_all(room, at, &[first, count])
 }
 
 // A rule: its trigger, its guards, the span of its items, its target.
@@ -42,13 +49,18 @@ pub fn put_rule(
     ensures next { result ≡ at + 6 }
     ensures room { room.new ≡ lay at (trigger ∷ guards.first ∷ guards.second ∷ items.first ∷ items.count ∷ target ∷ []) room.old }
 {
-    words::put(room, at, trigger);
-    words::put(room, at + 1, guards.first);
-    words::put(room, at + 2, guards.second);
-    words::put(room, at + 3, items.first);
-    words::put(room, at + 4, items.count);
-    words::put(room, at + 5, target);
-    at + 6
+    put_all(
+        room,
+        at,
+        &[
+            trigger,
+            guards.first,
+            guards.second,
+            items.first,
+            items.count,
+            target,
+        ],
+    )
 }
 
 // The two guards of a rule.
@@ -71,10 +83,8 @@ pub fn put_words(room: &mut [u16], at: usize, t: &[u16], from: usize, count: usi
     ensures next { result ≡ at + count }
     ensures room { room.new ≡ lay at (many (λ i. get_or t.now i 0) from count) room.old }
 {
-    let mut i = 0;
-    while i < count {
+    for i in 0..count {
         words::put(room, at + i, words::word(t, from + i));
-        i += 1;
     }
     at + count
 }

@@ -1,5 +1,5 @@
 -- How large the numbers are, and how they go on. Assumes nothing.
-use Prim.Native.Nat.{ℕ, zero, suc, ◌+◌, ◌*◌, ◌≤◌}
+use Prim.Native.Nat.{ℕ, ◌+◌, ◌*◌, ◌<◌, ◌≤◌}
 use mathlib.Core.Path.{◌≡◌, refl}
 use mathlib.Core.Bool.{Bool, not, cond}
 use native.Mathlib.Omega.{arith}
@@ -7,24 +7,12 @@ use Rattle.words.specs.Loops.{rank}
 use Rattle.words.proofs.Tests.{by_bool}
 use Rattle.words.proofs.Loops.{rank_most}
 use Rattle.chart.specs.View.{Chart}
-use Rattle.states.specs.Cells.{cells}
-use Rattle.states.specs.declared.StateSet.{StateSet}
 use Rattle.flatten_meaning.specs.Flattened.{asked, active_guard, active_guards, bare, taken_guard, taken_guards, forks, entered_guard}
 use Rattle.flatten_meaning.proofs.Sums.{sum_le, sum_same}
-use Rattle.flatten_numbers.specs.declared.Which.TheVariants.{These}
-use Rattle.flatten_numbers.specs.Numbered.{AskedStates}
-use Rattle.flatten_numbers.specs.Which.{numbered?}
 use Rattle.flatten_numbers.proofs.Cells.{Counts}
 
 module _ (c : Chart) where
-  -- ---- flat states and guards of active states
-  -- the states asked for, told by a set
-  pub active_same : (set : StateSet) → AskedStates c (cells set) → (j : ℕ) → j ≤ c.states
-      → rank (numbered? c (These set)) j ≡ active_guard c j
-  unfolding numbered? active_guard
-  active_same set e zero h = refl
-  active_same set e (suc j) h = rw (e j h, active_same set e j (omega arith)) refl
-
+  -- ---- guards of active states
   pub actives_most : active_guards c ≤ c.states
   unfolding active_guards active_guard
   actives_most = rank_most (asked c) c.states
@@ -60,9 +48,13 @@ module _ (c : Chart) where
   unfolding taken_guards
   takens_most = rank_most (λ s. not (bare c s)) c.transitions
 
-  pub entered_most : (k j : ℕ) → c.states ≤ 48 → c.transitions ≤ 48 → entered_guard c k j ≤ 96 + 48 * k + j
+  entered_most : (k j : ℕ) → c.states ≤ 48 → c.transitions ≤ 48 → entered_guard c k j ≤ 96 + 48 * k + j
   unfolding entered_guard
   entered_most k j h l =
       let row : ℕ → ℕ = λ s. rank (forks c s) c.states in
       let rows = sum_le row (λ s. 48) k (λ s q. omega (arith, rank_most (forks c s) c.states)) in
       omega (arith, actives_most, takens_most, rank_most (forks c k) j, sum_same 48 k)
+
+  pub entered_small : (k j : ℕ) {next : ℕ} → c.states ≤ 48 → c.transitions ≤ 48 → k < c.transitions → j < c.states
+      → next ≡ entered_guard c k j → next + 1 < 65536
+  entered_small k j h l p q e = omega (arith, e, entered_most k j h l)

@@ -1,4 +1,4 @@
--- `Numbered`: numbers as cells of arrays. `Which`: the states that are numbered. `Above`: the guard of what is above a state.
+-- `Numbered`: numbers as cells of arrays. `Those`: the states that pass a test. `Above`: the guard of what is above a state.
 pub mod Numbered
-pub mod Which
+pub mod Those
 pub mod Above

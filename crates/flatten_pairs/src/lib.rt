@@ -4,45 +4,42 @@
 
 ghost use Rattle.std.specs.Prelude.{◌≡◌, not, ◌&&◌, ◌<◌};
 ghost use Rattle.words.specs.Loops.{any, any_below};
-ghost use Rattle.chart.specs.View.{view, is_and};
-ghost use Rattle.chart.specs.Readable.{Readable};
+ghost use Rattle.chart.specs.Shown.{shown};
+ghost use Rattle.chart.specs.View.{is_and};
 ghost use Rattle.chart.specs.Literals.{literal_in};
-ghost use Rattle.chart_rules.specs.Rules.{ChartRules};
 ghost use Rattle.chart_meaning.specs.Scope.{beneath, scope, scoped};
 ghost use Rattle.chart_meaning.specs.Taken.{literals_of};
 ghost use Rattle.flatten_meaning.specs.Flattened.{some?, meets, quits, mentions, wants, blocks, bare, decides};
 
-use chart::Literal;
+use chart::{Literal, Table};
+use chart_rules::Accepted;
 
 // Whether states a and j can be active together: one is at or above the other, or they are apart.
-fn can_meet(t: &[u16], a: usize, j: usize) -> bool
-    requires { ChartRules t.now × (a < (view t.now).states) × (j < (view t.now).states) }
-    ensures { result ≡ meets (view t.now) a j }
+fn can_meet(t: Accepted, a: usize, j: usize) -> bool
+    requires { (a < (shown t.table).states) × (j < (shown t.table).states) }
+    ensures { result ≡ meets (shown t.entry.table) a j }
 {
-    if chart::is_within(t, a, j) {
+    if t.table.is_within(a, j) {
         return true;
     }
-    if chart::is_within(t, j, a) {
+    if t.table.is_within(j, a) {
         return true;
     }
-    chart::are_apart(t, a, j)
+    t.table.are_apart(a, j)
 }
 
 // Whether state j is an and-state with exit items.
-fn has_exits(t: &[u16], j: usize) -> bool
-    requires { Readable t.now × (j < (view t.now).states) }
-    ensures { result ≡ (is_and (view t.now) j && some? ((view t.now).exits j)) }
+fn has_exits(t: Table, j: usize) -> bool
+    requires { j < (shown t).states }
+    ensures { result ≡ (is_and (shown t.entry) j && some? ((shown t.entry).exits j)) }
 {
-    words::both(
-        chart::is_and(t, j),
-        chart::state_word(t, j, chart::EXITS + 1) != 0,
-    )
+    words::both(t.is_and(j), t.state_word(j, chart::EXITS + 1) != 0)
 }
 
 // Whether transition k has targets, and state j is below `top`.
-fn is_inside(t: &[u16], k: usize, top: usize, j: usize) -> bool
-    requires { Readable t.now × (k < (view t.now).transitions) }
-    ensures { result ≡ (scoped (view t.now) k && beneath (view t.now) top j) }
+fn is_inside(t: Table, k: usize, top: usize, j: usize) -> bool
+    requires { k < (shown t).transitions }
+    ensures { result ≡ (scoped (shown t.entry) k && beneath (shown t.entry) top j) }
 {
     words::both(
         chart_taken::is_scoped(t, k),
@@ -51,27 +48,25 @@ fn is_inside(t: &[u16], k: usize, top: usize, j: usize) -> bool
 }
 
 // Whether transition k, whose scope is `top`, can leave state j, and j has exit items.
-pub fn can_quit(t: &[u16], k: usize, top: usize, j: usize) -> bool
-    requires { ChartRules t.now × (k < (view t.now).transitions) × (j < (view t.now).states) × (top ≡ scope (view t.now) k) }
-    ensures { result ≡ quits (view t.now) k j }
+pub fn can_quit(t: Accepted, k: usize, top: usize, j: usize) -> bool
+    requires { (k < (shown t.table).transitions) × (j < (shown t.table).states) × (top ≡ scope (shown t.table) k) }
+    ensures { result ≡ quits (shown t.entry.table) k j }
 {
-    if !has_exits(t, j) {
+    if !has_exits(t.table, j) {
         return false;
     }
-    if !is_inside(t, k, top, j) {
+    if !is_inside(t.table, k, top, j) {
         return false;
     }
-    can_meet(t, chart::transition_word(t, k, chart::SOURCE), j)
+    can_meet(t, t.table.transition_word(k, chart::SOURCE), j)
 }
 
 // Whether transition s, if taken, keeps k from being taken, and their sources can be active together.
-pub fn does_block(t: &[u16], s: usize, k: usize) -> bool
-    requires { ChartRules t.now × (s < (view t.now).transitions) × (k < (view t.now).transitions) }
-    ensures { result ≡ blocks (view t.now) s k }
+pub fn does_block(t: Accepted, s: usize, k: usize) -> bool
+    requires { (s < (shown t.table).transitions) × (k < (shown t.table).transitions) }
+    ensures { result ≡ blocks (shown t.entry.table) s k }
 {
-    if chart::transition_word(t, s, chart::TRIGGER)
-        != chart::transition_word(t, k, chart::TRIGGER)
-    {
+    if t.table.transition_word(s, chart::TRIGGER) != t.table.transition_word(k, chart::TRIGGER) {
         return false;
     }
     if !chart_taken::are_related(t, s, k) {
@@ -79,87 +74,70 @@ pub fn does_block(t: &[u16], s: usize, k: usize) -> bool
     }
     can_meet(
         t,
-        chart::transition_word(t, s, chart::SOURCE),
-        chart::transition_word(t, k, chart::SOURCE),
+        t.table.transition_word(s, chart::SOURCE),
+        t.table.transition_word(k, chart::SOURCE),
     )
 }
 
 // Whether no transition before k blocks it.
-fn is_unblocked(t: &[u16], k: usize) -> bool
-    requires { ChartRules t.now × (k < (view t.now).transitions) }
-    ensures { result ≡ not (any_below (λ s. blocks (view t.now) s k) k) }
+fn is_unblocked(t: Accepted, k: usize) -> bool
+    requires { k < (shown t.table).transitions }
+    ensures { result ≡ not (any_below (λ s. blocks (shown t.entry.table) s k) k) }
 {
-    let mut s = 0;
-    while s < k {
-        if does_block(t, s, k) {
-            return false;
-        }
-        s += 1;
-    }
-    true
+    !(0..k).any(|s| does_block(t, s, k))
 }
 
 // Whether transition k asks for its source only.
-pub fn is_bare(t: &[u16], k: usize) -> bool
-    requires { ChartRules t.now × (k < (view t.now).transitions) }
-    ensures { result ≡ bare (view t.now) k }
+pub fn is_bare(t: Accepted, k: usize) -> bool
+    requires { k < (shown t.table).transitions }
+    ensures { result ≡ bare (shown t.entry.table) k }
 {
-    if chart::transition_word(t, k, chart::ASKS + 1) != 0 {
+    if t.table.transition_word(k, chart::ASKS + 1) != 0 {
         return false;
     }
     is_unblocked(t, k)
 }
 
 // Whether history decides if transition k enters state j.
-pub fn is_decided(t: &[u16], k: usize, j: usize) -> bool
-    requires { ChartRules t.now × (k < (view t.now).transitions) × (j < (view t.now).states) × ((view t.now).parent j < (view t.now).states) }
-    ensures { result ≡ decides (view t.now) k j }
+pub fn is_decided(t: Accepted, k: usize, j: usize) -> bool
+    requires { (k < (shown t.table).transitions) × (j < (shown t.table).states) × ((shown t.table).parent j < (shown t.table).states) }
+    ensures { result ≡ decides (shown t.entry.table) k j }
 {
-    let o = chart::state_word(t, j, chart::PARENT);
+    let o = t.table.state_word(j, chart::PARENT);
     words::both(
         !chart_entered::is_aimed(t, k, o),
-        chart_active::keeps_word(t, o),
+        chart_active::keeps_word(t.table, o),
     )
 }
 
 // Whether literal i names state j.
-fn does_name(t: &[u16], i: usize, j: usize) -> bool
-    requires { Readable t.now × (i < (view t.now).literals) }
-    ensures { result ≡ mentions (view t.now) j (literal_in ((view t.now).literal i)) }
+fn does_name(t: Table, i: usize, j: usize) -> bool
+    requires { i < (shown t).literals }
+    ensures { result ≡ mentions (shown t.entry) j (literal_in ((shown t.entry).literal i)) }
 {
-    let literal = chart::literal_at(t, i);
-    match literal {
-        Literal::Active(a) => words::wide(a) == j,
-        Literal::NotActive(a) => words::wide(a) == j,
-        Literal::AtLeast(a, b) => false,
-        Literal::Less(a, b) => false,
+    match t.literal_at(i) {
+        Literal::Active(a) | Literal::NotActive(a) => words::wide(a) == j,
+        Literal::AtLeast(_, _) | Literal::Less(_, _) => false,
     }
 }
 
 // Whether a literal of transition k names state j.
-fn is_named(t: &[u16], k: usize, j: usize) -> bool
-    requires { ChartRules t.now × (k < (view t.now).transitions) }
-    ensures { result ≡ any (mentions (view t.now) j) (literals_of (view t.now) k) }
+fn is_named(t: Accepted, k: usize, j: usize) -> bool
+    requires { k < (shown t.table).transitions }
+    ensures { result ≡ any (mentions (shown t.entry.table) j) (literals_of (shown t.entry.table) k) }
 {
-    let mut i = chart::transition_word(t, k, chart::ASKS);
-    let mut left = chart::transition_word(t, k, chart::ASKS + 1);
-    while 0 < left {
-        if does_name(t, i, j) {
-            return true;
-        }
-        i += 1;
-        left -= 1;
-    }
-    false
+    let first = t.table.transition_word(k, chart::ASKS);
+    let count = t.table.transition_word(k, chart::ASKS + 1);
+    (first..first + count).any(|i| does_name(t.table, i, j))
 }
 
 // Whether transition k, whose scope is `top`, asks whether state j is active: j is its source, is named by a literal, or has
 // exit items and can be left.
-pub fn does_want(t: &[u16], k: usize, top: usize, j: usize) -> bool
-    requires { ChartRules t.now × (k < (view t.now).transitions) × (j < (view t.now).states) × (top ≡ scope (view t.now) k) }
-    ensures { result ≡ wants (view t.now) k j }
+pub fn does_want(t: Accepted, k: usize, top: usize, j: usize) -> bool
+    requires { (k < (shown t.table).transitions) × (j < (shown t.table).states) × (top ≡ scope (shown t.table) k) }
+    ensures { result ≡ wants (shown t.entry.table) k j }
 {
-    if chart::transition_word(t, k, chart::SOURCE) == j {
+    if t.table.transition_word(k, chart::SOURCE) == j {
         return true;
     }
     if is_named(t, k, j) {

@@ -25,9 +25,6 @@ Falling f n at old j m mid =
     (next : ℕ) (new : List ℕ) → Ruled m (join_down f j) mid next new → Ruled at (join_down f n) old next new
 
 module _ (f : ℕ → List FlatRule) (n at : ℕ) (old : List ℕ) where
-  pub falling_start : (j : ℕ) → j ≡ n → Falling f n at old j at old
-  falling_start j e next new x = subst (λ (i : ℕ). Ruled at (join_down f i) old next new) e x
-
   pub falling_next : (j : ℕ) {m l : ℕ} {mid end : List ℕ} → 0 < j → Falling f n at old j m mid
       → Ruled m (f (j - 1)) mid l end → Falling f n at old (j - 1) l end
   falling_next j {m} {l} {mid} {end} h inv one next new rest =

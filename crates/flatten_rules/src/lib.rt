@@ -4,9 +4,7 @@
 
 ghost use Rattle.std.specs.Prelude.{◌≡◌, cond, ◌+◌, ◌<◌, ◌≤◌, length, get_or};
 ghost use Rattle.words.specs.Loops.{join_up, join_down};
-ghost use Rattle.chart.specs.View.{view};
-ghost use Rattle.chart.specs.Readable.{Readable};
-ghost use Rattle.chart_rules.specs.Rules.{ChartRules};
+ghost use Rattle.chart.specs.Shown.{shown};
 ghost use Rattle.states.specs.Cells.{cells};
 ghost use Rattle.chart_meaning.specs.Scope.{scope};
 ghost use Rattle.flatten_meaning.specs.Numbers.{and_rank};
@@ -16,15 +14,17 @@ ghost use Rattle.flatten_numbers.specs.Numbered.{AndRanks, ActiveNumbers, TakenN
 ghost use Rattle.flatten_laying.specs.Lay.{lay};
 ghost use Rattle.flatten_rules.specs.Ruled.{Ruled, of_exit, of_own, of_entry, ComeStates};
 
+use chart::Table;
+use chart_rules::Accepted;
 use flatten_laying::{Guards, Items};
 use states::StateSet;
 
 // The trigger of transition k.
-fn trigger_of(t: &[u16], k: usize) -> u16
-    requires { Readable t.now × (k < (view t.now).transitions) }
-    ensures { result ≡ (view t.now).trigger k }
+fn trigger_of(t: Table, k: usize) -> u16
+    requires { k < (shown t).transitions }
+    ensures { result ≡ (shown t.entry).trigger k }
 {
-    chart::transition_word(t, k, chart::TRIGGER) as u16
+    t.transition_word(k, chart::TRIGGER) as u16
 }
 
 // The span of items whose two words begin at `from`.
@@ -41,7 +41,7 @@ fn items_at(t: &[u16], from: usize) -> Items
 
 // The rule by which transition k, whose scope is `top`, leaves state j.
 fn lay_exit(
-    t: &[u16],
+    t: Accepted,
     k: usize,
     top: usize,
     j: usize,
@@ -50,8 +50,8 @@ fn lay_exit(
     room: &mut [u16],
     at: usize,
 ) -> usize
-    requires { ChartRules t.now × (k < (view t.now).transitions) × (j < (view t.now).states) × (top ≡ scope (view t.now) k) × ActiveNumbers (view t.now) actives.now × TakenNumbers (view t.now) takens.now × (at < 1000000) }
-    ensures rules { Ruled at (of_exit (view t.now) k j) room.old result room.new }
+    requires { (k < (shown t.table).transitions) × (j < (shown t.table).states) × (top ≡ scope (shown t.table) k) × ActiveNumbers (shown t.table) actives.now × TakenNumbers (shown t.table) takens.now × (at < 1000000) }
+    ensures rules { Ruled at (of_exit (shown t.entry.table) k j) room.old result room.new }
     ensures few { result ≤ at + 6 }
 {
     if !flatten_pairs::can_quit(t, k, top, j) {
@@ -61,13 +61,13 @@ fn lay_exit(
         first: words::word(takens, k),
         second: words::word(actives, j),
     };
-    let items = items_at(t, chart::state_at(t, j) + chart::EXITS);
-    flatten_laying::put_rule(room, at, trigger_of(t, k), guards, items, 65535)
+    let items = items_at(t.table.words, t.table.state_at(j) + chart::EXITS);
+    flatten_laying::put_rule(room, at, trigger_of(t.table, k), guards, items, 65535)
 }
 
 // The rules by which transition k leaves states.
 fn lay_exits(
-    t: &[u16],
+    t: Accepted,
     k: usize,
     top: usize,
     actives: &[u16],
@@ -75,26 +75,24 @@ fn lay_exits(
     room: &mut [u16],
     at: usize,
 ) -> usize
-    requires { ChartRules t.now × (k < (view t.now).transitions) × (top ≡ scope (view t.now) k) × ActiveNumbers (view t.now) actives.now × TakenNumbers (view t.now) takens.now × (at < 500000) }
-    ensures rules { Ruled at (join_down (of_exit (view t.now) k) (view t.now).states) room.old result room.new }
+    requires { (k < (shown t.table).transitions) × (top ≡ scope (shown t.table) k) × ActiveNumbers (shown t.table) actives.now × TakenNumbers (shown t.table) takens.now × (at < 500000) }
+    ensures rules { Ruled at (join_down (of_exit (shown t.entry.table) k) (shown t.entry.table).states) room.old result room.new }
     ensures few { result ≤ at + 288 }
 {
     let mut next = at;
-    let mut j = words::number(t, chart::STATES);
-    while 0 < j {
-        j -= 1;
+    for j in (0..words::number(t.table.words, chart::STATES)).rev() {
         next = lay_exit(t, k, top, j, actives, takens, room, next);
     }
     next
 }
 
 // The rule for the own items of transition k.
-fn lay_own(t: &[u16], k: usize, takens: &[u16], room: &mut [u16], at: usize) -> usize
-    requires { ChartRules t.now × (k < (view t.now).transitions) × TakenNumbers (view t.now) takens.now × (at < 1000000) }
-    ensures rules { Ruled at (of_own (view t.now) k) room.old result room.new }
+fn lay_own(t: Accepted, k: usize, takens: &[u16], room: &mut [u16], at: usize) -> usize
+    requires { (k < (shown t.table).transitions) × TakenNumbers (shown t.table) takens.now × (at < 1000000) }
+    ensures rules { Ruled at (of_own (shown t.entry.table) k) room.old result room.new }
     ensures few { result ≤ at + 6 }
 {
-    let items = items_at(t, chart::transition_at(t, k) + chart::DOES);
+    let items = items_at(t.table.words, t.table.transition_at(k) + chart::DOES);
     if items.count == 0 {
         return at;
     }
@@ -102,13 +100,13 @@ fn lay_own(t: &[u16], k: usize, takens: &[u16], room: &mut [u16], at: usize) -> 
         first: words::word(takens, k),
         second: words::word(takens, k),
     };
-    flatten_laying::put_rule(room, at, trigger_of(t, k), guards, items, 65535)
+    flatten_laying::put_rule(room, at, trigger_of(t.table, k), guards, items, 65535)
 }
 
 // The target of the rule by which transition k enters state j: none where history decides.
-fn target_of(t: &[u16], k: usize, j: usize, ands: &[u16]) -> u16
-    requires { ChartRules t.now × (k < (view t.now).transitions) × (j < (view t.now).states) × ((view t.now).parent j < (view t.now).states) × AndRanks (view t.now) ands.now }
-    ensures { result ≡ cond (decides (view t.now) k j) 65535 (and_rank (view t.now) j) }
+fn target_of(t: Accepted, k: usize, j: usize, ands: &[u16]) -> u16
+    requires { (k < (shown t.table).transitions) × (j < (shown t.table).states) × ((shown t.table).parent j < (shown t.table).states) × AndRanks (shown t.table) ands.now }
+    ensures { result ≡ cond (decides (shown t.entry.table) k j) 65535 (and_rank (shown t.entry.table) j) }
 {
     if flatten_pairs::is_decided(t, k, j) {
         return 65535;
@@ -118,7 +116,7 @@ fn target_of(t: &[u16], k: usize, j: usize, ands: &[u16]) -> u16
 
 // The rule by which transition k enters state j, where it is one of those that `come`.
 fn lay_entry(
-    t: &[u16],
+    t: Accepted,
     k: usize,
     come: StateSet,
     j: usize,
@@ -128,22 +126,22 @@ fn lay_entry(
     room: &mut [u16],
     at: usize,
 ) -> usize
-    requires { ChartRules t.now × (k < (view t.now).transitions) × ComeStates (view t.now) k (cells come) × (j < (view t.now).states) × AndRanks (view t.now) ands.now × TakenNumbers (view t.now) takens.now × Refers (view t.now) k refers.now × (at < 1000000) }
-    ensures rules { Ruled at (of_entry (view t.now) k j) room.old result room.new }
+    requires { (k < (shown t.table).transitions) × ComeStates (shown t.table) k (cells come) × (j < (shown t.table).states) × AndRanks (shown t.table) ands.now × TakenNumbers (shown t.table) takens.now × Refers (shown t.table) k refers.now × (at < 1000000) }
+    ensures rules { Ruled at (of_entry (shown t.entry.table) k j) room.old result room.new }
     ensures few { result ≤ at + 6 }
 {
-    if !states::has(come, j) {
+    if !come.has(j) {
         return at;
     }
     let guards = Guards {
         first: words::word(takens, k),
         second: words::word(refers, j),
     };
-    let items = items_at(t, chart::state_at(t, j) + chart::ENTRIES);
+    let items = items_at(t.table.words, t.table.state_at(j) + chart::ENTRIES);
     flatten_laying::put_rule(
         room,
         at,
-        trigger_of(t, k),
+        trigger_of(t.table, k),
         guards,
         items,
         target_of(t, k, j, ands),
@@ -152,7 +150,7 @@ fn lay_entry(
 
 // The rules by which transition k enters states.
 fn lay_entries(
-    t: &[u16],
+    t: Accepted,
     k: usize,
     come: StateSet,
     ands: &[u16],
@@ -161,23 +159,20 @@ fn lay_entries(
     room: &mut [u16],
     at: usize,
 ) -> usize
-    requires { ChartRules t.now × (k < (view t.now).transitions) × ComeStates (view t.now) k (cells come) × AndRanks (view t.now) ands.now × TakenNumbers (view t.now) takens.now × Refers (view t.now) k refers.now × (at < 500000) }
-    ensures rules { Ruled at (join_up (of_entry (view t.now) k) (view t.now).states) room.old result room.new }
+    requires { (k < (shown t.table).transitions) × ComeStates (shown t.table) k (cells come) × AndRanks (shown t.table) ands.now × TakenNumbers (shown t.table) takens.now × Refers (shown t.table) k refers.now × (at < 500000) }
+    ensures rules { Ruled at (join_up (of_entry (shown t.entry.table) k) (shown t.entry.table).states) room.old result room.new }
     ensures few { result ≤ at + 288 }
 {
-    let n = words::number(t, chart::STATES);
     let mut next = at;
-    let mut j = 0;
-    while j < n {
+    for j in 0..words::number(t.table.words, chart::STATES) {
         next = lay_entry(t, k, come, j, ands, takens, refers, room, next);
-        j += 1;
     }
     next
 }
 
 // All rules of transition k, whose scope is `top`.
 fn lay_rules_of(
-    t: &[u16],
+    t: Accepted,
     k: usize,
     top: usize,
     come: StateSet,
@@ -188,8 +183,8 @@ fn lay_rules_of(
     room: &mut [u16],
     at: usize,
 ) -> usize
-    requires { ChartRules t.now × (k < (view t.now).transitions) × (top ≡ scope (view t.now) k) × ComeStates (view t.now) k (cells come) × AndRanks (view t.now) ands.now × ActiveNumbers (view t.now) actives.now × TakenNumbers (view t.now) takens.now × Refers (view t.now) k refers.now × (at < 400000) }
-    ensures rules { Ruled at (rules_of (view t.now) k) room.old result room.new }
+    requires { (k < (shown t.table).transitions) × (top ≡ scope (shown t.table) k) × ComeStates (shown t.table) k (cells come) × AndRanks (shown t.table) ands.now × ActiveNumbers (shown t.table) actives.now × TakenNumbers (shown t.table) takens.now × Refers (shown t.table) k refers.now × (at < 400000) }
+    ensures rules { Ruled at (rules_of (shown t.entry.table) k) room.old result room.new }
     ensures few { result ≤ at + 582 }
 {
     let left = lay_exits(t, k, top, actives, takens, room, at);
@@ -199,7 +194,7 @@ fn lay_rules_of(
 
 // All rules. The first guard of a state that is entered is number `first`.
 pub fn lay_rules(
-    t: &[u16],
+    t: Accepted,
     ands: &[u16],
     actives: &[u16],
     takens: &[u16],
@@ -207,23 +202,19 @@ pub fn lay_rules(
     room: &mut [u16],
     at: usize,
 ) -> usize
-    requires { ChartRules t.now × AndRanks (view t.now) ands.now × ActiveNumbers (view t.now) actives.now × TakenNumbers (view t.now) takens.now × (first ≡ entered_guard (view t.now) 0 0) × (at < 100000) }
-    ensures next { result ≡ at + length (rule_words (flattened (view t.now))) }
-    ensures room { room.new ≡ lay at (rule_words (flattened (view t.now))) room.old }
+    requires { AndRanks (shown t.table) ands.now × ActiveNumbers (shown t.table) actives.now × TakenNumbers (shown t.table) takens.now × (first ≡ entered_guard (shown t.table) 0 0) × (at < 100000) }
+    ensures next { result ≡ at + length (rule_words (flattened (shown t.entry.table))) }
+    ensures room { room.new ≡ lay at (rule_words (flattened (shown t.entry.table))) room.old }
 {
-    let n = words::number(t, chart::TRANSITIONS);
     let mut refers = [0u16; 48];
     let mut number = first;
     let mut next = at;
-    let mut k = 0;
-    while k < n {
+    for k in 0..words::number(t.table.words, chart::TRANSITIONS) {
         let e = flatten_numbers::entries_of(t, k, takens, number, &mut refers);
-        let come = e.comes;
         next = lay_rules_of(
-            t, k, e.top, come, ands, actives, takens, &refers, room, next,
+            t, k, e.top, e.comes, ands, actives, takens, &refers, room, next,
         );
         number = e.next;
-        k += 1;
     }
     next
 }

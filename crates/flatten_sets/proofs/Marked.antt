@@ -3,7 +3,7 @@
 use Prim.Native.Nat.{ℕ, ◌<◌, ◌≤◌}
 use mathlib.Core.Path.{◌≡◌, refl, sym, ap, ◌∙◌}
 use mathlib.Core.Logic.{◌≢◌}
-use mathlib.Core.Bool.{Bool, true, false, ◌&&◌, ◌||◌, or-false, or_assoc, and-true, and-false}
+use mathlib.Core.Bool.{Bool, true, false, ◌||◌, or-false, or_assoc}
 use mathlib.Core.List.{List}
 use native.Mathlib.Decide.{ℕ_discrete}
 use native.Mathlib.Omega.{arith}
@@ -58,10 +58,3 @@ module _ {c : Chart} (w : Tree c) (old : List Bool) (j x : ℕ) (s : List Bool) 
       ∙ one 0 i w.some
       ∙ ap (λ (b : Bool). get_or s i false || b) (sym (within_root c i w.some) ∙ ap (within c i) e)
       ∙ m.same i l
-
--- marked only where b holds
-pub not_marked : (s x b : Bool) → b ≡ false → s ≡ (s || (x && b))
-not_marked s x b e = rw (e, and-false x) (sym (or-false s))
-
-pub is_marked : (s x b : Bool) → b ≡ true → (s || x) ≡ (s || (x && b))
-is_marked s x b e = rw (e, and-true x) refl

@@ -1,33 +1,24 @@
--- A set that is filled by a test of each number has those that pass. Assumes nothing.
+-- A set that is filled number by number. Assumes nothing.
 use Prim.Native.Nat.{ℕ, ◌+◌, ◌<◌}
-use mathlib.Core.Path.{◌≡◌, refl, ap, ◌∙◌}
+use mathlib.Core.Path.{◌≡◌, ap, ◌∙◌}
 use mathlib.Core.Bool.{Bool, false}
 use mathlib.Core.List.{List}
-use lib.ListN.{get_or, set}
-use Rattle.words.specs.Loops.{tab}
-use Rattle.words.proofs.Loops.{tab_at}
+use native.Mathlib.Numerals.{add-one}
+use native.Mathlib.Omega.{arith}
+use lib.ListN.{length, get_or, set}
+use lib.Seq.{get_or-set_same, get_or-set_other}
+use Rattle.words.proofs.Tests.{last_or}
 use Rattle.states.specs.Cells.{no_cells}
-use Rattle.states.proofs.Cells.{Growing, filled_none, growing_none, growing_next}
-
--- the test of a cell, whatever the cells before it are
-abbrev test : (ℕ → Bool) → ℕ → List Bool → Bool
-test p j cells = p j
-
--- the set as far as k
-abbrev pub Sifted : (ℕ → Bool) → ℕ → List Bool → Type 0
-Sifted p k s = Growing (test p) k s
+use Rattle.states.proofs.Cells.{filled_none}
 
 pub empty : (s : List Bool) → s ≡ no_cells → (j : ℕ) → get_or s j false ≡ false
-empty s e j = ap (λ (l : List Bool). get_or l j false) e ∙ filled_none (test (λ k. false)) j
+empty s e j = ap (λ (l : List Bool). get_or l j false) e ∙ filled_none (λ k cells. false) j
 
-module _ (p : ℕ → Bool) where
-  pub sifted_none : {s : List Bool} → s ≡ no_cells → Sifted p 0 s
-  sifted_none e = growing_none (test p) e
-
-  pub sifted_next : (k : ℕ) (s : List Bool) {v : Bool} {r : List Bool} → k < 48 → v ≡ p k → r ≡ set s k v
-      → Sifted p k s → Sifted p (k + 1) r
-  sifted_next k s l e q g = growing_next (test p) k s l e refl q g
-
-  pub sifted_all : (n m : ℕ) (s : List Bool) → m ≡ n → Sifted p m s → (j : ℕ) → j < n → get_or s j false ≡ p j
-  sifted_all n m s e g j h =
-      g.made j ∙ ap (λ (k : ℕ). get_or (tab (test p) k) j false) e ∙ tab_at (test p) false n j h
+-- what holds of each of the cells before k holds of those before k + 1, where it holds of the one that is set
+pub sifted_next {ℓ} : (P : ℕ → Bool → Type ℓ) (k : ℕ) (s : List Bool) {v : Bool} {r : List Bool}
+    → k < length s → P k v → r ≡ set s k v
+    → ((j : ℕ) → j < k → P j (get_or s j false)) → (j : ℕ) → j < k + 1 → P j (get_or r j false)
+sifted_next P k s {v} l p q old j h =
+    rw q (last_or j k (rw add-one at h)
+    (λ m. rw (get_or-set_other s k j v false (λ z. omega arith)) (old j m))
+    (λ z. rw (z, get_or-set_same s k v false l) p))

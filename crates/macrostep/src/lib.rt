@@ -1,11 +1,11 @@
 // What the macrosteps of a chart and of a flat table have in common: how many words of the outputs are kept aside while one is tried,
-// and when it is told. Each form has a loop of its own (`chart_macrostep`, `flat_macrostep`): one for both takes more of the stack.
+// and when it is told. Each form has a loop of its own (`chart_macrostep`, `flat_macrostep`).
 #![tactic(auto)]
 
 ghost use Rattle.std.specs.Prelude.{◌≡◌, ◌≤◌};
 ghost use Rattle.macrostep.specs.Ends.{told?};
 
-use effects::Progress;
+use effects::{Counted, Progress};
 
 // How many words of the outputs are kept while a macrostep is tried.
 pub const KEPT: usize = 12;
@@ -21,8 +21,8 @@ pub fn first_of(lent: usize) -> usize
 pub fn is_told(n: Progress, lent: usize) -> bool
     ensures { result ≡ told? n lent }
 {
-    if effects::is_stopped(n) {
+    if n.is_stopped() {
         return false;
     }
-    2 * effects::wide(effects::outs_of(n)) <= lent
+    2 * n.count(Counted::Output) as usize <= lent
 }

@@ -1,23 +1,17 @@
 -- Laws of the bits of a number: what they are after one is set or cleared. Assumes nothing.
 use Prim.Native.Nat.{ℕ, zero, suc, ◌+◌, ◌*◌, ◌/◌, ◌%◌, ◌^◌, ◌-◌, ◌<◌}
-use native.Mathlib.Nat.{one-mul, div_self, div-eq_of_lt, pow-suc}
+use native.Mathlib.Nat.{div_self, div-eq_of_lt, pow-suc}
 use native.Mathlib.Decide.{ℕ_discrete, dec_lt}
 use native.Mathlib.Omega.{arith}
 use mathlib.Core.Path.{◌≡◌, refl, sym, ◌∙◌, ap}
 use mathlib.Core.Bool.{Bool, false, true, not, ◌||◌, cond, beq}
 use mathlib.Core.Logic.{◌≢◌}
-use lib.Dec.{eqb, lit<}
-use lib.Bits.{bit_or, bit_and, bit_xor, or_shr, or_mod, xor_shr, xor_mod, and_mask}
-use lib.Pow.{pow_pos, pow-add, shl-shr, shl_exact, pow-lt}
+use lib.Dec.{eqb}
+use lib.Bits.{bit_or, bit_xor, or_shr, or_mod, xor_shr, xor_mod}
+use lib.Pow.{pow_pos, pow-add, shl-shr, pow-lt}
+use Rattle.std.proofs.lemmas.Nat.{or_lt, xor_lt}
 use Rattle.words.proofs.Tests.{eqb_yes, eqb_no}
 use Rattle.marks.specs.Bits.{bit_at, set_bit, clear_bit}
-
--- the code's `& 1`, and its `1 << k` in a word of w bits
-pub low_bit : (n : ℕ) → bit_and n 1 ≡ n % 2
-low_bit n = and_mask n 1
-
-pub one_shl : (w k : ℕ) → k < w → (1 * 2 ^ k) % 2 ^ w ≡ 2 ^ k
-one_shl w k h = shl_exact 1 k w (lit< tt) (omega arith) ∙ one-mul _
 
 -- one digit
 or_digit : (x y : ℕ) → x < 2 → y < 2 → eqb (bit_or x y) 1 ≡ (eqb x 1 || eqb y 1)
@@ -100,3 +94,12 @@ set_bit_lem m k j = bit_or_lem m (2 ^ k) j ∙ rw (bit_pow k j) (set_digit (bit_
 pub clear_bit_lem : (m k j : ℕ) → bit_at (clear_bit m k) j ≡ cond (eqb j k) false (bit_at m j)
 unfolding clear_bit
 clear_bit_lem m k j = bit_xor_lem (bit_or m (2 ^ k)) (2 ^ k) j ∙ rw (bit_or_lem m (2 ^ k) j, bit_pow k j) (clear_digit (bit_at m j) (eqb j k))
+
+-- ---- a number of w bits is one still once a bit of it is set or cleared
+pub set_fits : (w m k : ℕ) → m < 2 ^ w → k < w → set_bit m k < 2 ^ w
+unfolding set_bit
+set_fits w m k h l = or_lt w m (2 ^ k) h (pow-lt l)
+
+pub clear_fits : (w m k : ℕ) → m < 2 ^ w → k < w → clear_bit m k < 2 ^ w
+unfolding clear_bit
+clear_fits w m k h l = xor_lt w (bit_or m (2 ^ k)) (2 ^ k) (or_lt w m (2 ^ k) h (pow-lt l)) (pow-lt l)

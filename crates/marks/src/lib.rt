@@ -2,41 +2,49 @@
 // Every number here has its bit in the slice, so no index is tested. specs/Bits.antt says what is marked.
 #![tactic(auto)]
 
-ghost use Rattle.std.specs.Prelude.{◌≡◌, ◌*◌, ◌<◌, ◌≤◌, length};
+ghost use Rattle.std.specs.Prelude.{◌≡◌, ◌*◌, ◌%◌, ◌^◌, ◌<◌, ◌≤◌, length};
 ghost use Rattle.words.specs.Next.{Onward, Last};
 ghost use Rattle.marks.specs.Bits.{bit_at, set_bit, clear_bit, marked, with_mark, without_mark};
 
-// Whether bit k of a word is set.
-fn has_bit(w: u16, k: u16) -> bool
-    requires { k < 16 }
-    ensures { result ≡ bit_at w k }
+// Whether bit k of a number is set.
+pub fn has_bit(m: u64, k: usize) -> bool
+    requires { k < 64 }
+    ensures { result ≡ bit_at m k }
 {
-    (w >> k) & 1 == 1
+    (m >> k) & 1 == 1
 }
 
-// The word with bit k set.
-fn with_bit(w: u16, k: u16) -> u16
-    requires { k < 16 }
-    ensures { result ≡ set_bit w k }
+// The number with bit k set.
+pub fn with_bit(m: u64, k: usize) -> u64
+    requires { k < 64 }
+    ensures { result ≡ set_bit m k }
 {
-    w | (1u16 << k)
+    m | (1u64 << k)
 }
 
-// The word with bit k cleared.
-fn without_bit(w: u16, k: u16) -> u16
-    requires { k < 16 }
-    ensures { result ≡ clear_bit w k }
+// The number with bit k cleared.
+pub fn without_bit(m: u64, k: usize) -> u64
+    requires { k < 64 }
+    ensures { result ≡ clear_bit m k }
 {
-    let b = 1u16 << k;
-    (w | b) ^ b
+    let b = 1u64 << k;
+    (m | b) ^ b
 }
 
-// One more than the highest bit of a word that is set, below k; 0 where there is none.
-fn last_bit(w: u16, k: u16) -> usize
-    requires { k ≤ 16 }
-    ensures { Last (bit_at w) k result }
+// The bits of a number below bit k.
+pub fn low_bits(m: u64, k: usize) -> u64
+    requires { k < 64 }
+    ensures { result ≡ m % 2 ^ k }
 {
-    (32 - u32::leading_zeros(w as u32 & ((1u32 << k) - 1))) as usize
+    m & ((1u64 << k) - 1)
+}
+
+// One more than the highest bit of a number that is set, below bit k; 0 where there is none.
+pub fn last_bit(m: u64, k: usize) -> usize
+    requires { k < 64 }
+    ensures { Last (bit_at m) k result }
+{
+    64 - low_bits(m, k).leading_zeros() as usize
 }
 
 // Whether number k is marked.
@@ -44,7 +52,7 @@ pub fn has(marks: &[u16], k: usize) -> bool
     requires { k < 16 * length marks.now }
     ensures { result ≡ marked marks.now k }
 {
-    has_bit(words::word_in(marks, k / 16), (k % 16) as u16)
+    has_bit(u64::from(words::word_in(marks, k / 16)), k % 16)
 }
 
 // Number k is marked.
@@ -52,8 +60,8 @@ pub fn add(marks: &mut [u16], k: usize)
     requires { k < 16 * length marks.old }
     ensures { marks.new ≡ with_mark k marks.old }
 {
-    let w = words::word_in(marks, k / 16);
-    words::put_in(marks, k / 16, with_bit(w, (k % 16) as u16));
+    let w = u64::from(words::word_in(marks, k / 16));
+    words::put_in(marks, k / 16, with_bit(w, k % 16) as u16);
 }
 
 // Number k is not marked any more.
@@ -61,8 +69,8 @@ pub fn remove(marks: &mut [u16], k: usize)
     requires { k < 16 * length marks.old }
     ensures { marks.new ≡ without_mark k marks.old }
 {
-    let w = words::word_in(marks, k / 16);
-    words::put_in(marks, k / 16, without_bit(w, (k % 16) as u16));
+    let w = u64::from(words::word_in(marks, k / 16));
+    words::put_in(marks, k / 16, without_bit(w, k % 16) as u16);
 }
 
 // The lowest number from k on that is marked, where that is below n; n or more where there is none.
@@ -72,9 +80,9 @@ pub fn next(marks: &[u16], k: usize, n: usize) -> usize
 {
     let mut j = k;
     while j < n {
-        let above = words::word_in(marks, j / 16) >> ((j % 16) as u16);
+        let above = words::word_in(marks, j / 16) >> (j % 16);
         if above != 0 {
-            return j + u16::trailing_zeros(above) as usize;
+            return j + above.trailing_zeros() as usize;
         }
         j = 16 * (j / 16) + 16;
     }
@@ -89,7 +97,7 @@ pub fn last(marks: &[u16], k: usize) -> usize
     let mut n = k;
     while 0 < n {
         let i = (n - 1) / 16;
-        let b = last_bit(words::word_in(marks, i), (n - 16 * i) as u16);
+        let b = last_bit(u64::from(words::word_in(marks, i)), n - 16 * i);
         if 0 < b {
             return 16 * i + b;
         }

@@ -1,4 +1,5 @@
 -- What the flattener leaves is what is promised of it. Assumes nothing.
+use Rattle.std.specs.Prelude.{Result, Ok, Err}
 use Prim.Native.Nat.{ℕ, ◌≤◌}
 use mathlib.Core.Path.{◌≡◌, refl, sym, ap, ◌∙◌, subst}
 use mathlib.Core.Bool.{Bool, true, false}
@@ -7,9 +8,9 @@ use native.Mathlib.Omega.{arith}
 use lib.ListN.{length, take, drop}
 use lib.Seq.{take_at}
 use Rattle.words.proofs.Tests.{clash, ltb_no}
+use Rattle.table.specs.Answers.{told, refusal_told}
 use Rattle.table.specs.declared.Refusal.{Refusal}
-use Rattle.table.specs.declared.Verdict.TheVariants.{Refused as refusing}
-use Rattle.table.proofs.Answers.{told_once}
+use Rattle.table.proofs.Answers.{refusal_once}
 use Rattle.effects.proofs.Calls.{done_not_refused}
 use Rattle.chart.specs.View.{view}
 use Rattle.chart_rules.specs.Rules.{ChartRules}
@@ -23,18 +24,16 @@ use Rattle.flatten_meaning.proofs.Bounds.{total_in_room}
 use Rattle.flatten_meaning.proofs.FlatTable.{flat_table_of}
 use Rattle.flatten_laying.specs.Lay.{lay}
 use Rattle.flatten_laying.proofs.Lay.{lay_front, lay_length, lay_behind}
-use Rattle.flatten.specs.Wrote.{flatten_told, flatten_answer, Wrote, refuses, wrote}
-use Rattle.answers.specs.declared.Flattening.{Flattening}
-use Rattle.answers.specs.declared.Flattening.TheVariants.{Done, Refused}
+use Rattle.flatten.specs.Wrote.{flatten_answer, Wrote, refuses, wrote}
 use Rattle.olivrescum.specs.Promises.{FlatTableWritten, ChartFlattened}
 
-done? : Flattening → Bool
-done? (Done n) = true
-done? (Refused r) = false
+done? : Result ℕ Refusal → Bool
+done? (Ok n) = true
+done? (Err r) = false
 
-words_of : Flattening → ℕ
-words_of (Done n) = n
-words_of (Refused r) = 0
+words_of : Result ℕ Refusal → ℕ
+words_of (Ok n) = n
+words_of (Err r) = 0
 
 -- ---- the table stands in front
 module _ {chart : List ℕ} (rules : ChartRules chart) (room : List ℕ) (big : room_needed (view chart) ≤ length room) where
@@ -61,27 +60,27 @@ module _ {chart : List ℕ} (rules : ChartRules chart) (room : List ℕ) (big : 
   unfolding flatten_answer
   answered_done = rw ((exact chart).1 rules, ltb_no (length room) (room_needed (view chart)) big) refl
 
-pub promised : {chart room : List ℕ} {answer : Flattening} {after : List ℕ} → Wrote chart room answer after → ChartFlattened chart room answer after
+pub promised : {chart room : List ℕ} {answer : Result ℕ Refusal} {after : List ℕ} → Wrote chart room answer after → ChartFlattened chart room answer after
 unfolding done? words_of ws
 promised (refuses {r} e) = record {
   answered = e;
   refused = λ s h. refl;
-  written = λ n h. clash (done? (Refused r)) (ap done? h) refl;
+  written = λ n h. clash (done? (Err r)) (ap done? h) refl;
 }
 promised {room = room} (wrote {n} {after} rules big long laid) = record {
   answered = answered_done rules room big;
-  refused = λ s h. clash (done? (Done n)) refl (ap done? h);
+  refused = λ s h. clash (done? (Ok n)) refl (ap done? h);
   written = λ m h. table_written rules room big m (sym (ap words_of h) ∙ long) after laid;
 }
 
 -- ---- one answer
-same_refusal : (b : Flattening) (r : Refusal) → flatten_told b ≡ flatten_told (Refused r) → b ≡ Refused r
-same_refusal (Done n) r e = done_not_refused r e
-same_refusal (Refused s) r e = let same : refusing s ≡ refusing r = told_once (refusing s) (refusing r) e in cc
+same_refusal : (b : Result ℕ Refusal) (r : Refusal) → told b ≡ refusal_told r → b ≡ Err r
+same_refusal (Ok n) r e = done_not_refused r e
+same_refusal (Err s) r e = ap Err (refusal_once s r e)
 
-pub determinate : (chart room : List ℕ) (a b : Flattening) (after-a after-b : List ℕ)
+pub determinate : (chart room : List ℕ) (a b : Result ℕ Refusal) (after-a after-b : List ℕ)
     → ChartFlattened chart room a after-a → ChartFlattened chart room b after-b
-    → (flatten_told a ≡ flatten_told b) × ((r : Refusal) → a ≡ Refused r → (b ≡ Refused r) × (after-a ≡ after-b))
+    → (told a ≡ told b) × ((r : Refusal) → a ≡ Err r → (b ≡ Err r) × (after-a ≡ after-b))
 determinate chart room a b after-a after-b p q =
     let same = p.answered ∙ sym q.answered in
-    (same, λ r h. let e = same_refusal b r (sym same ∙ ap flatten_told h) in (e, p.refused r h ∙ sym (q.refused r e)))
+    (same, λ r h. let e = same_refusal b r (sym same ∙ ap (told {T = ℕ}) h) in (e, p.refused r h ∙ sym (q.refused r e)))

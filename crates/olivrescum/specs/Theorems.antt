@@ -1,20 +1,17 @@
 -- What is proved of the promises, and of the definitions that they stand on.
-use Rattle.std.specs.Prelude.{ℕ, ◌≡◌, List}
+use Rattle.std.specs.Prelude.{⊤, ℕ, ◌≡◌, List, Result, Err}
 use Rattle.words.specs.Logic.{Iff}
+use Rattle.table.specs.Answers.{told}
 use Rattle.table.specs.Check.{Judged}
 use Rattle.table.specs.declared.Refusal.{Refusal}
-use Rattle.table.specs.declared.Verdict.{Verdict}
 use Rattle.chart_rules.specs.Rules.{ChartRules}
 use Rattle.chart_check.specs.Answer.{chart_rules, chart_answer}
-use Rattle.answers.specs.declared.ChartRun.{ChartRun}
+use Rattle.answers.specs.declared.Counts.{Counts}
 use Rattle.chart_check.specs.RuleByRule.{RulesNumbered}
 use Rattle.flat_rules.specs.Rules.{FlatRules}
 use Rattle.flat_check.specs.Answer.{flat_rules, flat_answer}
 use Rattle.flat_check.specs.RuleByRule.{FlatRulesNumbered}
-use Rattle.answers.specs.declared.FlatRun.{FlatRun}
-use Rattle.flatten.specs.Wrote.{flatten_told}
-use Rattle.answers.specs.declared.Flattening.{Flattening}
-use Rattle.answers.specs.declared.Flattening.TheVariants.{Refused}
+use Rattle.answers.specs.declared.FlatCounts.{FlatCounts}
 use Rattle.olivrescum.specs.Promises.{ChartChecked, ChartStarted, ChartRan, FlatTableChecked, FlatTableStarted, FlatTableRan, ChartFlattened}
 
 -- Demand 2: "A chart table is accepted exactly when it keeps 01's rules."
@@ -62,39 +59,39 @@ pub record FlatCheckExact : Type 0 where
 -- ---- one outcome
 -- 01, What the promises say: "inputs determine the answer and every lent word afterwards, refusals too".
 abbrev pub CheckDeterminate : Type 0
-CheckDeterminate = (chart : List ℕ) (a b : Verdict) → ChartChecked chart a → ChartChecked chart b → a ≡ b
+CheckDeterminate = (chart : List ℕ) (a b : Result ⊤ Refusal) → ChartChecked chart a → ChartChecked chart b → a ≡ b
 
 abbrev pub StartDeterminate : Type 0
 StartDeterminate =
-    (chart state : List ℕ) (a b : Verdict) (after-a after-b : List ℕ)
+    (chart state : List ℕ) (a b : Result ⊤ Refusal) (after-a after-b : List ℕ)
     → ChartStarted chart state a after-a → ChartStarted chart state b after-b → (a ≡ b) × (after-a ≡ after-b)
 
 abbrev pub RunDeterminate : Type 0
 RunDeterminate =
-    (chart state : List ℕ) (event : ℕ) (outputs : List ℕ) (a b : ChartRun) (state-a state-b outputs-a outputs-b : List ℕ)
+    (chart state : List ℕ) (event : ℕ) (outputs : List ℕ) (a b : Result Counts Refusal) (state-a state-b outputs-a outputs-b : List ℕ)
     → ChartRan chart state event outputs a state-a outputs-a → ChartRan chart state event outputs b state-b outputs-b
     → (a ≡ b) × (state-a ≡ state-b) × (outputs-a ≡ outputs-b)
 
 abbrev pub FlatCheckDeterminate : Type 0
-FlatCheckDeterminate = (flat : List ℕ) (a b : Verdict) → FlatTableChecked flat a → FlatTableChecked flat b → a ≡ b
+FlatCheckDeterminate = (flat : List ℕ) (a b : Result ⊤ Refusal) → FlatTableChecked flat a → FlatTableChecked flat b → a ≡ b
 
 abbrev pub FlatStartDeterminate : Type 0
 FlatStartDeterminate =
-    (flat state : List ℕ) (a b : Verdict) (after-a after-b : List ℕ)
+    (flat state : List ℕ) (a b : Result ⊤ Refusal) (after-a after-b : List ℕ)
     → FlatTableStarted flat state a after-a → FlatTableStarted flat state b after-b → (a ≡ b) × (after-a ≡ after-b)
 
 abbrev pub FlatRunDeterminate : Type 0
 FlatRunDeterminate =
-    (flat state : List ℕ) (event : ℕ) (outputs : List ℕ) (a b : FlatRun) (state-a state-b outputs-a outputs-b : List ℕ)
+    (flat state : List ℕ) (event : ℕ) (outputs : List ℕ) (a b : Result FlatCounts Refusal) (state-a state-b outputs-a outputs-b : List ℕ)
     → FlatTableRan flat state event outputs a state-a outputs-a → FlatTableRan flat state event outputs b state-b outputs-b
     → (a ≡ b) × (state-a ≡ state-b) × (outputs-a ≡ outputs-b)
 
 -- Of flatten the promise leaves one answer, and for a refusal every word: "The one exception .. is the flat table's text".
 abbrev pub FlattenDeterminate : Type 0
 FlattenDeterminate =
-    (chart room : List ℕ) (a b : Flattening) (after-a after-b : List ℕ)
+    (chart room : List ℕ) (a b : Result ℕ Refusal) (after-a after-b : List ℕ)
     → ChartFlattened chart room a after-a → ChartFlattened chart room b after-b
-    → (flatten_told a ≡ flatten_told b) × ((r : Refusal) → a ≡ Refused r → (b ≡ Refused r) × (after-a ≡ after-b))
+    → (told a ≡ told b) × ((r : Refusal) → a ≡ Err r → (b ≡ Err r) × (after-a ≡ after-b))
 
 -- What is promised of each call leaves it one outcome.
 pub record Determinate : Type 0 where

@@ -1,17 +1,16 @@
 -- What an answer says in numbers. 01, What a call can say, gives its number and place; what is counted is 01's "Counts
 -- reported", the rules fired of a flat run, the outputs as pairs, and the words of the flat table written. What a call does
 -- not count is 0, and "a refusal reports counts 0", which `counts_of`, `flat_counts_of` and `table_words_of` say.
-use Rattle.std.specs.Prelude.{ℕ, List, [], ◌∷◌}
+use Rattle.std.specs.Prelude.{⊤, ℕ, List, [], ◌∷◌, Result}
 use Rattle.table.specs.Answers.{told}
-use Rattle.table.specs.declared.Verdict.{Verdict}
-use Rattle.answers.specs.declared.ChartRun.{ChartRun}
-use Rattle.answers.specs.declared.FlatRun.{FlatRun}
-use Rattle.answers.specs.declared.Flattening.{Flattening}
-use Rattle.answers.specs.Parts.{verdict_of, counts_of, flat_verdict_of, flat_counts_of, flatten_verdict_of, table_words_of}
+use Rattle.table.specs.declared.Refusal.{Refusal}
+use Rattle.answers.specs.declared.Counts.{Counts}
+use Rattle.answers.specs.declared.FlatCounts.{FlatCounts}
+use Rattle.answers.specs.Parts.{counts_of, flat_counts_of, table_words_of}
 use Rattle.reports.specs.declared.Said.{Said}
 
 -- a check or a start
-abbrev pub verdict_said : Verdict → Said
+abbrev pub verdict_said : Result ⊤ Refusal → Said
 verdict_said v = record {
   number = (told v).0;
   place = (told v).1;
@@ -25,10 +24,10 @@ verdict_said v = record {
 }
 
 -- a run of a chart
-abbrev pub chart_said : ChartRun → Said
+abbrev pub chart_said : Result Counts Refusal → Said
 chart_said run = record {
-  number = (told (verdict_of run)).0;
-  place = (told (verdict_of run)).1;
+  number = (told run).0;
+  place = (told run).1;
   microsteps = (counts_of run).microsteps;
   taken = (counts_of run).taken;
   left = (counts_of run).left;
@@ -39,10 +38,10 @@ chart_said run = record {
 }
 
 -- a run of a flat table
-abbrev pub flat_said : FlatRun → Said
+abbrev pub flat_said : Result FlatCounts Refusal → Said
 flat_said run = record {
-  number = (told (flat_verdict_of run)).0;
-  place = (told (flat_verdict_of run)).1;
+  number = (told run).0;
+  place = (told run).1;
   microsteps = (flat_counts_of run).microsteps;
   taken = 0;
   left = 0;
@@ -53,10 +52,10 @@ flat_said run = record {
 }
 
 -- a flattening
-abbrev pub flatten_said : Flattening → Said
+abbrev pub flatten_said : Result ℕ Refusal → Said
 flatten_said f = record {
-  number = (told (flatten_verdict_of f)).0;
-  place = (told (flatten_verdict_of f)).1;
+  number = (told f).0;
+  place = (told f).1;
   microsteps = 0;
   taken = 0;
   left = 0;

@@ -5,11 +5,11 @@
 ghost use Rattle.std.specs.Prelude.{◌≡◌, set};
 ghost use Rattle.reports.specs.Said.{verdict_said, chart_said, flat_said, flatten_said, report_of, reported};
 
-use answers::{ChartRun, FlatRun, Flattening};
-use table::Verdict;
+use answers::{Counts, FlatCounts};
+use table::Refusal;
 
 // What an answer says in numbers: its own number, and then the eight words of a report. What a call does not count is 0.
-#[derive(Clone, Copy)]
+#[derive(Clone, Copy, PartialEq, Eq, Debug, Default)]
 pub struct Said {
     pub number: u32,
     pub place: u32,
@@ -23,55 +23,66 @@ pub struct Said {
 }
 
 // What a check or a start says, which count nothing.
-pub fn verdict_said(verdict: Verdict) -> Said
-    ensures { result ≡ verdict_said verdict }
-{
-    Said {
-        number: answers::number_of(verdict),
-        place: answers::place_of(verdict),
-        microsteps: 0,
-        taken: 0,
-        left: 0,
-        entered: 0,
-        fired: 0,
-        outputs: 0,
-        words: 0,
+impl From<Result<(), Refusal>> for Said {
+    ghost from_gives = { λ answer said. said ≡ verdict_said answer };
+
+    fn from(answer: Result<(), Refusal>) -> Said {
+        Said {
+            number: answers::number_of(&answer),
+            place: answers::place_of(&answer),
+            ..Said::default()
+        }
     }
 }
 
 // What a run of a chart says.
-pub fn chart_said(run: ChartRun) -> Said
-    ensures { result ≡ chart_said run }
-{
-    let counts = answers::counts_of(run);
-    let mut said = verdict_said(answers::verdict_of(run));
-    said.microsteps = counts.microsteps;
-    said.taken = counts.taken;
-    said.left = counts.left;
-    said.entered = counts.entered;
-    said.outputs = counts.outputs;
-    said
+impl From<Result<Counts, Refusal>> for Said {
+    ghost from_gives = { λ run said. said ≡ chart_said run };
+
+    fn from(run: Result<Counts, Refusal>) -> Said {
+        let counts = answers::counts_of(run);
+        Said {
+            number: answers::number_of(&run),
+            place: answers::place_of(&run),
+            microsteps: counts.microsteps,
+            taken: counts.taken,
+            left: counts.left,
+            entered: counts.entered,
+            outputs: counts.outputs,
+            ..Said::default()
+        }
+    }
 }
 
 // What a run of a flat table says.
-pub fn flat_said(run: FlatRun) -> Said
-    ensures { result ≡ flat_said run }
-{
-    let counts = answers::flat_counts_of(run);
-    let mut said = verdict_said(answers::flat_verdict_of(run));
-    said.microsteps = counts.microsteps;
-    said.fired = counts.fired;
-    said.outputs = counts.outputs;
-    said
+impl From<Result<FlatCounts, Refusal>> for Said {
+    ghost from_gives = { λ run said. said ≡ flat_said run };
+
+    fn from(run: Result<FlatCounts, Refusal>) -> Said {
+        let counts = answers::counts_of(run);
+        Said {
+            number: answers::number_of(&run),
+            place: answers::place_of(&run),
+            microsteps: counts.microsteps,
+            fired: counts.fired,
+            outputs: counts.outputs,
+            ..Said::default()
+        }
+    }
 }
 
 // What a flattening says.
-pub fn flatten_said(flattening: Flattening) -> Said
-    ensures { result ≡ flatten_said flattening }
-{
-    let mut said = verdict_said(answers::flatten_verdict_of(flattening));
-    said.words = answers::table_words_of(flattening);
-    said
+impl From<Result<u32, Refusal>> for Said {
+    ghost from_gives = { λ flattening said. said ≡ flatten_said flattening };
+
+    fn from(flattening: Result<u32, Refusal>) -> Said {
+        Said {
+            number: answers::number_of(&flattening),
+            place: answers::place_of(&flattening),
+            words: answers::counts_of(flattening),
+            ..Said::default()
+        }
+    }
 }
 
 // Word k of a report becomes `value`; past its end nothing changes.

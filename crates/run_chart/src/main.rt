@@ -2,14 +2,17 @@
 // each event and a last one for the state; of a refused table only the number and the place of its refusal.
 #![tactic(auto)]
 
-ghost use Rattle.io.specs.Counts.{IsPrefixLen};
-ghost use Rattle.std.specs.Prelude.{◌≤◌};
+ghost use Rattle.std.specs.Prelude.{◌≤◌, length};
 
-use shell::Text;
+use answers::Counts;
+use shell::{Steps, Text};
+use std::fmt;
+use std::fmt::Write;
+use table::Refusal;
 
 // Reads a chart: as many words as its second word says, and no more than fit. Answers how many came.
 fn read_chart(chart: &mut [u16]) -> usize
-    ensures { IsPrefixLen result chart.new }
+    ensures { result ≤ length chart.new }
 {
     let said = shell::read_words(chart, 0, 2);
     if said < 2 {
@@ -22,159 +25,99 @@ fn read_chart(chart: &mut [u16]) -> usize
 fn or_states(t: &[u16]) -> usize
     ensures { result ≤ 65535 }
 {
-    let states = words::number(t, chart::STATES);
-    let mut ors = 0;
-    let mut k = 0;
-    while k < states {
-        ors += is_or(t, k);
-        k += 1;
-    }
-    ors
+    let states = words::word(t, chart::STATES);
+    (0..states).filter(|k| is_or(t, *k)).count()
 }
 
-// 1 where state k is an or-state, and 0 where it is not.
-fn is_or(t: &[u16], k: usize) -> usize
-    requires { k ≤ 65535 }
-    ensures { result ≤ 1 }
-{
-    let kind = words::number(t, words::number(t, chart::STATES_AT) + 7 * k + chart::KIND);
-    if kind == 2 { 0 } else { 1 }
+// Whether state k is an or-state.
+fn is_or(t: &[u16], k: u16) -> bool {
+    let at = words::number(t, chart::STATES_AT) + 7 * words::wide(k);
+    words::number(t, at + chart::KIND) != 2
 }
 
 // How many words of `room` a state of this chart takes: one for each or-state, and the variables.
 fn state_words(t: &[u16], room: &[u16]) -> usize
-    ensures { IsPrefixLen result room.now }
+    ensures { result ≤ length room.now }
 {
     shell::lent(or_states(t) + words::number(t, chart::VARIABLES), room)
 }
 
-// Puts an output: its number, and its value signed.
-fn put_output(text: &mut Text, at: usize, number: u16, value: u16) -> usize {
-    let at = shell::put_field(text, at, number as u32);
-    let at = shell::put_byte(text, at, b':');
-    shell::put_signed(text, at, value)
-}
-
-// Puts the outputs that `outputs` hold, two words each.
-fn put_outputs(text: &mut Text, at: usize, outputs: &[u16]) -> usize {
-    let mut end = at;
-    let mut k = 0;
-    while k < outputs.len() / 2 {
-        end = put_output(text, end, outputs[2 * k], outputs[2 * k + 1]);
-        k += 1;
+// Puts the outputs, two words each: a number, and a value signed.
+fn put_outputs(text: &mut impl Write, outputs: &[u16]) -> fmt::Result {
+    for output in outputs.chunks_exact(2) {
+        write!(text, " {}:{}", output[0], output[1].cast_signed())?;
     }
-    end
+    Ok(())
 }
 
 // Puts the line of an event: what the run said, and the outputs that it wrote at the start of `outputs`.
 fn put_run(
-    text: &mut Text,
-    at: usize,
+    text: &mut impl Write,
     event: u8,
-    run: answers::ChartRun,
+    run: Result<Counts, Refusal>,
     outputs: &[u16],
-) -> usize {
+) -> fmt::Result {
+    let number = answers::number_of(&run);
     let counts = answers::counts_of(run);
-    let at = shell::put_number(text, at, event as u32);
-    let at = shell::put_field(text, at, answers::number_of(answers::verdict_of(run)));
-    let at = shell::put_counts(text, at, counts);
+    write!(text, "{event} {number} {}", Steps(counts))?;
     let written = shell::lent(2 * counts.outputs as usize, outputs);
-    let at = put_outputs(text, at, &outputs[..written]);
-    shell::put_newline(text, at)
+    put_outputs(text, &outputs[..written])?;
+    writeln!(text)
 }
 
 // Runs an event, with 256 pairs lent, and puts its line.
-fn run_event(t: &[u16], state: &mut [u16], event: u8, text: &mut Text, at: usize) -> usize {
+fn run_event(t: &[u16], state: &mut [u16], event: u8, text: &mut impl Write) -> fmt::Result {
     let mut outputs = [0u16; 512];
-    let run = olivrescum::run_chart(t, state, event as u32, &mut outputs);
-    put_run(text, at, event, run, &outputs)
+    let run = olivrescum::run_chart(t, state, u32::from(event), &mut outputs);
+    put_run(text, event, run, &outputs)
 }
 
-// Runs some events, one after the other.
-fn run_events(t: &[u16], state: &mut [u16], events: &[u8], text: &mut Text, at: usize) -> usize {
-    let mut end = at;
-    let mut k = 0;
-    while k < events.len() {
-        end = run_event(t, state, events[k], text, end);
-        k += 1;
-    }
-    end
-}
-
-// A piece of the input that was run: how many events it had, and how many bytes of text wait then.
-#[derive(Clone, Copy)]
-struct Piece {
-    events: usize,
-    at: usize,
-}
-
-// Reads a buffer of events, fewer where the input ends, and runs them.
-fn run_piece(t: &[u16], state: &mut [u16], text: &mut Text, at: usize) -> Piece {
-    let mut buffer = io::buffer();
-    let events = shell::read_bytes(&mut buffer);
-    let at = run_events(t, state, &buffer[..events], text, at);
-    Piece {
-        events: events,
-        at: at,
-    }
-}
-
-// Runs all events of the input. A loop has to end, and nothing says that the input does: the pieces are counted down
-// from a number that no run uses up.
-fn run_input(t: &[u16], state: &mut [u16], text: &mut Text) -> usize {
-    let mut at = 0;
-    let mut pieces = u64::MAX;
-    while pieces > 0 {
-        let piece = run_piece(t, state, text, at);
-        if piece.events == 0 {
+// Runs all events of the input, which is read by whole buffers. The bound is one that no input reaches.
+fn run_input(t: &[u16], state: &mut [u16], text: &mut impl Write) -> fmt::Result {
+    let mut buffer = [0u8; 4096];
+    for _ in 0..u64::MAX {
+        let count = shell::read_bytes(&mut buffer);
+        if count == 0 {
             break;
         }
-        at = piece.at;
-        pieces -= 1;
+        for event in &buffer[..count] {
+            run_event(t, state, *event, text)?;
+        }
     }
-    at
-}
-
-// Puts a space and a word, signed.
-fn put_word(text: &mut Text, at: usize, word: u16) -> usize {
-    let at = shell::put_byte(text, at, b' ');
-    shell::put_signed(text, at, word)
+    Ok(())
 }
 
 // Puts the line of a state, which has a word for its root at least. A state's number is too small to look signed.
-fn put_state(text: &mut Text, at: usize, state: &[u16]) -> usize {
-    let mut end = shell::put_signed(text, at, words::word(state, 0));
-    let mut k = 1;
-    while k < state.len() {
-        end = put_word(text, end, state[k]);
-        k += 1;
+fn put_state(text: &mut impl Write, state: &[u16]) -> fmt::Result {
+    write!(text, "{}", words::word(state, 0).cast_signed())?;
+    for word in state.iter().skip(1) {
+        write!(text, " {}", word.cast_signed())?;
     }
-    shell::put_newline(text, end)
+    writeln!(text)
 }
 
 // Puts the line of a refusal: number and place.
-fn put_refusal(text: &mut Text, verdict: table::Verdict) -> usize {
-    let at = shell::put_number(text, 0, answers::number_of(verdict));
-    let at = shell::put_field(text, at, answers::place_of(verdict));
-    shell::put_newline(text, at)
+fn put_refusal(text: &mut impl Write, answer: &Result<(), Refusal>) -> fmt::Result {
+    let number = answers::number_of(answer);
+    writeln!(text, "{number} {}", answers::place_of(answer))
 }
 
-// Starts the chart, and runs the events where its table is not refused. Answers how many bytes of text wait.
-fn run(t: &[u16], state: &mut [u16], text: &mut Text) -> usize {
-    let verdict = olivrescum::start_chart(t, state);
-    if answers::number_of(verdict) != 0 {
-        return put_refusal(text, verdict);
+// Starts the chart, and runs the events where its table is not refused.
+fn run(t: &[u16], state: &mut [u16], text: &mut impl Write) -> fmt::Result {
+    let answer = olivrescum::start_chart(t, state);
+    if answer.is_err() {
+        return put_refusal(text, &answer);
     }
-    let at = run_input(t, state, text);
-    put_state(text, at, state)
+    run_input(t, state, text)?;
+    put_state(text, state)
 }
 
 fn main() {
+    let mut text = Text::new();
     let mut chart = [0u16; 3040];
     let count = read_chart(&mut chart);
     let mut state = [0u16; 64];
     let words = state_words(&chart[..count], &state);
-    let mut text = [0u8; 4096];
-    let at = run(&chart[..count], &mut state[..words], &mut text);
-    shell::write_out(&text, at);
+    let _ = run(&chart[..count], &mut state[..words], &mut text);
+    text.finish();
 }

@@ -1,37 +1,34 @@
-// What the programs share and the library has no use for: words from standard input, and text to standard output. Both
-// are functions over lent arrays and a position: nothing is kept between calls.
+// What the programs share and the library has no use for: words from standard input, and text to standard output.
 #![tactic(auto)]
 
-ghost use Rattle.std.specs.Prelude.{◌≡◌, ◌+◌, ◌-◌, ◌*◌, ◌<◌, ◌≤◌, min, set};
-ghost use Rattle.io.specs.Counts.{IsPrefixLen};
+ghost use Rattle.std.specs.Prelude.{◌≡◌, ℕ, ◌<◌, ◌≤◌, List, [], ◌∷◌, ◌++◌, length, take};
+
+use std::fmt;
+use std::marker::Model;
 
 // The numbers of the two streams.
 const STDIN: i32 = 0;
 
 const STDOUT: i32 = 1;
 
-// The smaller of two numbers.
-fn least(a: usize, b: usize) -> usize
-    ensures { (result ≡ min a b) × (result ≤ a) × (result ≤ b) }
+// As many words of `room` as are asked for, and no more than it has.
+pub fn lent(words: usize, room: &[u16]) -> usize
+    ensures { result ≤ length room.now }
 {
-    if a < b { a } else { b }
+    words.min(room.len())
 }
 
-// The word of two bytes.
-fn word_of(low: u8, high: u8) -> u16
-    ensures { result ≡ low + 256 * high }
+// Fills `bytes` from standard input. Answers how many came: fewer than there is room for where the input ended.
+pub fn read_bytes(bytes: &mut [u8]) -> usize
+    ensures { result ≤ length bytes.new }
 {
-    low as u16 + 256 * (high as u16)
+    io::read_full(STDIN, bytes)
 }
 
-// The first `count` words that `bytes` hold become those of `words` from `at` on.
-fn unpack(bytes: &[u8; 4096], count: usize, words: &mut [u16], at: usize)
-    requires { (count ≤ 2048) × (at + count < 18446744073709551616) }
-{
-    let mut k = 0;
-    while k < count {
-        words::put(words, at + k, word_of(bytes[2 * k], bytes[2 * k + 1]));
-        k += 1;
+// The words become those that the bytes hold, the low byte first, as far as both go.
+fn unpack(bytes: &[u8], words: &mut [u16]) {
+    for (word, pair) in words.iter_mut().zip(bytes.chunks_exact(2)) {
+        *word = u16::from_le_bytes([pair[0], pair[1]]);
     }
 }
 
@@ -40,10 +37,11 @@ fn read_some(words: &mut [u16], at: usize, to: usize) -> usize
     requires { at < to }
     ensures { (at ≤ result) × (result ≤ to) }
 {
-    let mut bytes = io::buffer();
-    let wanted = 2 * least(to - at, 2048);
-    let count = io::read_full(STDIN, &mut bytes[..wanted]) / 2;
-    unpack(&bytes, count, words, at);
+    let mut bytes = [0u8; 4096];
+    let wanted = 2 * (to - at).min(2048);
+    let count = read_bytes(&mut bytes[..wanted]) / 2;
+    let start = lent(at, words);
+    unpack(&bytes[..2 * count], &mut words[start..]);
     at + count
 }
 
@@ -51,7 +49,7 @@ fn read_some(words: &mut [u16], at: usize, to: usize) -> usize
 // read and dropped. Answers how many words of the slice are read, those before `from` too: fewer than `to` where the
 // input ended, and half a word is none.
 pub fn read_words(words: &mut [u16], from: usize, to: usize) -> usize
-    ensures { IsPrefixLen result words.new }
+    ensures { result ≤ length words.new }
 {
     let mut at = from;
     while at < to {
@@ -61,100 +59,84 @@ pub fn read_words(words: &mut [u16], from: usize, to: usize) -> usize
         }
         at = next;
     }
-    least(at, words.len())
+    lent(at, words)
 }
 
-// As many words of `room` as are asked for, and no more than it has.
-pub fn lent(words: usize, room: &[u16]) -> usize
-    ensures { IsPrefixLen result room.now }
-{
-    least(words, room.len())
+// Text on its way to standard output, as contracts see it the bytes that wait: until 4096 do, or the text ends. What
+// cannot be written is dropped.
+#[derive(Drop)]
+pub struct Text {
+    bytes: [u8; 4096],
+    len: usize,
 }
 
-// Fills `bytes` from standard input. Answers how many came: fewer than there is room for where the input ended.
-pub fn read_bytes(bytes: &mut [u8]) -> usize
-    ensures { IsPrefixLen result bytes.new }
-{
-    io::read_full(STDIN, bytes)
+impl Model for Text {
+    ghost Value = { List ℕ };
+
+    ghost view = { λ t. take t.len t.bytes };
+
+    ghost invariant = { λ t. t.len ≤ 4096 };
 }
 
-// Text on its way to standard output. How many of its bytes wait is a number beside it, `at`.
-pub type Text = [u8; 4096];
-
-// Writes the first `most` of some bytes to standard output, or all where there are fewer.
-fn write_first(bytes: &[u8], most: usize) {
-    let count = least(most, bytes.len());
-    io::write_all(STDOUT, &bytes[..count]);
-}
-
-// Writes the `at` bytes that wait to standard output.
-pub fn write_out(text: &Text, at: usize) {
-    write_first(text, at);
-}
-
-// Where the next byte goes: a full text is written out first.
-fn room_at(text: &Text, at: usize) -> usize
-    ensures { result < 4096 }
-{
-    if at < 4096 {
-        return at;
+impl Text {
+    // No text yet.
+    pub fn new() -> Text
+        ensures { result ≡ [] }
+    {
+        Text {
+            bytes: [0; 4096],
+            len: 0,
+        }
     }
-    write_out(text, at);
-    0
-}
 
-// Puts a byte behind the `at` that wait. As each function that puts something, it answers how many wait then.
-pub fn put_byte(text: &mut Text, at: usize, byte: u8) -> usize
-    ensures result_nonzero { (0 < result) × (result ≤ 4096) }
-    ensures text_after { text.new ≡ set text.old (result - 1) byte }
-{
-    let free = room_at(text, at);
-    text[free] = byte;
-    free + 1
-}
-
-// Puts some bytes.
-fn put_bytes(text: &mut Text, at: usize, bytes: &[u8]) -> usize {
-    let mut end = at;
-    let mut k = 0;
-    while k < bytes.len() {
-        end = put_byte(text, end, bytes[k]);
-        k += 1;
+    // Writes out what waits, and ends the text.
+    pub fn finish(mut self) {
+        self.write_out();
     }
-    end
-}
 
-// Puts a number in decimal.
-pub fn put_number(text: &mut Text, at: usize, number: u32) -> usize {
-    let mut digits = [0u8; 20];
-    let count = io::decimal(number as u64, &mut digits);
-    put_bytes(text, at, &digits[..count])
-}
-
-// Puts a word as the signed number that it stands for.
-pub fn put_signed(text: &mut Text, at: usize, word: u16) -> usize {
-    if word < 32768 {
-        return put_number(text, at, word as u32);
+    // Writes out what waits.
+    fn write_out(&mut self)
+        ensures { self.new ≡ [] }
+    {
+        io::write_all(STDOUT, &self.bytes[..self.len]);
+        self.len = 0;
     }
-    let at = put_byte(text, at, b'-');
-    put_number(text, at, 65536 - word as u32)
+
+    // Puts a byte behind those that wait, which go out first where they are all that fit.
+    fn put_byte(&mut self, byte: u8)
+        ensures behind { length self.old < 4096 → self.new ≡ self.old ++ byte ∷ [] }
+        ensures after_full { length self.old ≡ 4096 → self.new ≡ byte ∷ [] }
+    {
+        if self.len == 4096 {
+            self.write_out();
+        }
+        self.bytes[self.len] = byte;
+        self.len += 1;
+    }
 }
 
-// Puts a space and a number.
-pub fn put_field(text: &mut Text, at: usize, number: u32) -> usize {
-    let at = put_byte(text, at, b' ');
-    put_number(text, at, number)
+impl fmt::Write for Text {
+    // Takes all of it.
+    fn write_str(&mut self, s: &str) -> fmt::Result {
+        for byte in s.as_bytes() {
+            self.put_byte(*byte);
+        }
+        Ok(())
+    }
 }
 
-// Puts a field for each count of a run but its outputs.
-pub fn put_counts(text: &mut Text, at: usize, counts: answers::Counts) -> usize {
-    let at = put_field(text, at, counts.microsteps);
-    let at = put_field(text, at, counts.taken);
-    let at = put_field(text, at, counts.left);
-    put_field(text, at, counts.entered)
-}
+// The counts of a run but its outputs, as numbers with spaces between.
+#[derive(Clone, Copy)]
+pub struct Steps(pub answers::Counts);
 
-// Puts a newline.
-pub fn put_newline(text: &mut Text, at: usize) -> usize {
-    put_byte(text, at, b'\n')
+impl fmt::Display for Steps {
+    // Writes microsteps, transitions taken, states left and states entered.
+    fn fmt<W: fmt::Write>(&self, f: &mut fmt::Formatter<W>) -> fmt::Result {
+        let Steps(counts) = *self;
+        write!(
+            f,
+            "{} {} {} {}",
+            counts.microsteps, counts.taken, counts.left, counts.entered
+        )
+    }
 }

@@ -1,13 +1,15 @@
 -- A set shows 48 cells; one that is filled number by number has the cells of a `tab`. Assumes nothing.
 use Prim.Native.Nat.{ℕ, zero, suc, ◌+◌, ◌<◌}
-use mathlib.Core.Path.{◌≡◌, refl, sym, ◌∙◌}
-use mathlib.Core.Bool.{Bool, false}
+use mathlib.Core.Path.{◌≡◌, refl, sym, ◌∙◌, ap}
+use mathlib.Core.Bool.{Bool, false, true}
 use mathlib.Core.List.{List}
 use native.Mathlib.Decide.{ℕ_discrete}
 use native.Mathlib.Omega.{arith}
+use lib.Dec.{eqb}
 use lib.ListN.{length, get_or, set, length-set, get_or-eq_default}
 use lib.Seq.{get_or-set_same, get_or-set_other}
 use Rattle.words.specs.Loops.{tab, many}
+use Rattle.words.proofs.Tests.{eqb_yes, eqb_eq}
 use Rattle.words.proofs.Loops.{tab_length, tab_next, tab_off}
 use Rattle.words.proofs.Many.{many_length}
 use Rattle.marks.specs.Bits.{bit_at}
@@ -18,6 +20,14 @@ use Rattle.states.specs.Cells.{cells, no_cells}
 pub cells_length : (s : StateSet) → length (cells s) ≡ 48
 unfolding cells
 cells_length s = many_length (bit_at s.bits) 0 48
+
+-- sets that are equal to the code show the same cells, and each is equal to itself
+pub equal_cells : (a b : StateSet) → eqb a.bits b.bits ≡ true → cells a ≡ cells b
+unfolding cells
+equal_cells a b e = ap (λ (m : ℕ). many (bit_at m) 0 48) (eqb_eq a.bits b.bits e)
+
+pub equal_self : (a b : StateSet) → a ≡ b → eqb a.bits b.bits ≡ true
+equal_self a b e = eqb_yes (ap (λ (s : StateSet). s.bits) e)
 
 -- s has the cells that g makes, as far as k
 abbrev pub Filled : (ℕ → List Bool → Bool) → ℕ → List Bool → Type 0

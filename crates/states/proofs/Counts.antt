@@ -1,5 +1,5 @@
 -- Laws of the lowest and the highest bit of a number and of how many are set, as members of a set. Assumes nothing.
-use Prim.Native.Nat.{ℕ, zero, suc, ◌+◌, ◌-◌, ◌/◌, ◌%◌, ◌^◌, ◌<◌, ◌≤◌}
+use Prim.Native.Nat.{ℕ, zero, suc, ◌+◌, ◌/◌, ◌%◌, ◌^◌, ◌<◌, ◌≤◌, min}
 use native.Mathlib.Nat.{mod-one, mod-lt}
 use native.Mathlib.Omega.{arith}
 use mathlib.Core.Path.{◌≡◌, refl, sym, ◌∙◌, ap}
@@ -7,12 +7,12 @@ use mathlib.Core.Bool.{Bool, false, true, cond}
 use lib.Dec.{eqb}
 use lib.ListN.{get_or}
 use lib.Pow.{pow_pos, mod-pow-add}
-use lib.Count.{ones, ones_cat, count_trailing_zeros, count_leading_zeros}
+use lib.Count.{ones, ones_cat, count_trailing_zeros}
 use Rattle.words.specs.Loops.{many, rank}
 use Rattle.words.specs.Next.{Next, Last}
 use Rattle.words.proofs.Skip.{rank_cong}
 use Rattle.marks.specs.Bits.{bit_at}
-use Rattle.marks.proofs.Zeros.{lowest, highest}
+use Rattle.marks.proofs.Zeros.{lowest}
 use Rattle.states.proofs.Bits.{cell_in}
 
 -- ---- how many bits are set
@@ -38,25 +38,27 @@ module _ (m : ℕ) where
   is_in b j h e = sym (cell_in m j b h (sym e))
 
   -- the lowest member from k on, or n where that is not below it
-  pub next_is : (k n r : ℕ) → n ≤ 48 → k ≤ r → r ≤ n → r ≤ k + count_trailing_zeros 64 (m / 2 ^ k)
-      → (r < n → r ≡ k + count_trailing_zeros 64 (m / 2 ^ k)) → Next (λ j. get_or (many (bit_at m) 0 48) j false) k n r
-  next_is k n r h from up_to most found =
-      let o = lowest 64 m k in record {
-        from = from;
-        up_to = up_to;
-        skipped = λ j l g. is_in false j (omega arith) (o.skipped j l (omega arith));
-        member = λ l. is_in true r (omega arith) (ap (bit_at m) (found l) ∙ o.member (omega (arith, found l)));
+  pub next_is : (k n : ℕ) → k ≤ n → n ≤ 48
+      → Next (λ j. get_or (many (bit_at m) 0 48) j false) k n (min (k + count_trailing_zeros 64 (m / 2 ^ k)) n)
+  next_is k n l h =
+      let o = lowest 64 m k in
+      let r = k + count_trailing_zeros 64 (m / 2 ^ k) in record {
+        from = omega (arith, l);
+        up_to = omega arith;
+        skipped = λ j f g. is_in false j (omega arith) (o.skipped j f (omega arith));
+        member = λ g.
+            let e : min r n ≡ r = omega (arith, g) in
+            is_in true (min r n) (omega arith) (ap (bit_at m) e ∙ o.member (omega (arith, e)));
       }
 
   module _ (k : ℕ) (h : k ≤ 48) where
     -- one more than the highest member below k
-    pub last_is : Last (λ j. get_or (many (bit_at m) 0 48) j false) k (64 - count_leading_zeros 64 (m % 2 ^ k))
-    last_is =
-        let o = highest 64 m k (omega arith) in record {
-          up_to = o.up_to;
-          skipped = λ j l g. is_in false j (omega arith) (o.skipped j l g);
-          member = λ j e. is_in true j (omega (arith, o.up_to)) (o.member j e);
-        }
+    pub last_is : (r : ℕ) → Last (bit_at m) k r → Last (λ j. get_or (many (bit_at m) 0 48) j false) k r
+    last_is r o = record {
+      up_to = o.up_to;
+      skipped = λ j l g. is_in false j (omega arith) (o.skipped j l g);
+      member = λ j e. is_in true j (omega (arith, o.up_to)) (o.member j e);
+    }
 
     -- how many members are below k
     pub count_is : ones (m % 2 ^ k) ≡ rank (λ j. get_or (many (bit_at m) 0 48) j false) k

@@ -9,9 +9,47 @@ use native.Mathlib.Numerals.{add-one}
 use lib.Dec.{ltb}
 use lib.ListN.{length, drop}
 use lib.Seq.{drop-cons}
-use Rattle.words.proofs.Tests.{ltb_lt, ltb_yes, ltb_ge, ltb_no, clash, last_or}
+use Rattle.std.specs.Prelude.{Option, None, Some, MatchOption, IfSome}
+use Rattle.words.proofs.Tests.{by_bool, ltb_lt, ltb_yes, ltb_ge, ltb_no, clash, last_or}
 use Rattle.words.proofs.Loops.{Lowest, lowest}
-use Rattle.table.specs.Check.{Rule, no_rule, rule_numbered, lowest_bad, answer, Kept, KeptBefore, Judged, all_kept, lowest_broken}
+use Rattle.table.specs.Check.{Rule, no_rule, rule_numbered, lowest_bad, IsLowestBad, answer, Kept, KeptBefore, Judged, all_kept, lowest_broken}
+
+-- ---- for the search of a rule's places
+found : (r : Rule) (i : ℕ) → i < r.places → r.keeps i ≡ false → ((k : ℕ) → k < i → r.keeps k ≡ true) → i ≡ lowest_bad r
+found r i h bad before =
+    let low = lowest r.keeps r.places 0 in
+    by_bool (ltb (lowest_bad r) i)
+    (λ e.
+    let l = ltb_lt (lowest_bad r) i e in
+    clash (r.keeps (lowest_bad r)) (before (lowest_bad r) l) (low.fails (omega (arith, l))))
+    (λ e.
+    let l = ltb_ge (lowest_bad r) i e in
+    by_bool (ltb i (lowest_bad r))
+    (λ d. clash (r.keeps i) (low.before i (omega arith) (ltb_lt i (lowest_bad r) d)) bad)
+    (λ d. let g = ltb_ge i (lowest_bad r) d in omega (arith, l, g)))
+
+none_found : (r : Rule) → ((k : ℕ) → k < r.places → r.keeps k ≡ true) → r.places ≤ lowest_bad r
+none_found r kept =
+    by_bool (ltb (lowest_bad r) r.places)
+    (λ e.
+    let l = ltb_lt (lowest_bad r) r.places e in
+    clash (r.keeps (lowest_bad r)) (kept (lowest_bad r) l) ((lowest r.keeps r.places 0).fails (omega (arith, l))))
+    (λ e. ltb_ge (lowest_bad r) r.places e)
+
+-- what `find` over the places says
+pub lowest_found : (r : Rule) (n : ℕ) → n ≡ r.places → (p : Option ℕ)
+    → MatchOption p ((k : ℕ) → 0 ≤ k → k < n → r.keeps k ≡ true)
+    (λ i. (0 ≤ i) × (i < n) × (r.keeps i ≡ false) × ((k : ℕ) → 0 ≤ k → k < i → r.keeps k ≡ true))
+    → IsLowestBad r p
+lowest_found r n e None h = none_found r (λ k l. h k (omega arith) (omega (arith, e, l)))
+lowest_found r n e (Some i) h =
+    let l : i < r.places = omega (arith, e, h.1) in
+    (found r i l h.2 (λ k g. h.3 k (omega arith) g), l)
+
+-- a place that is found is one of the rule's places
+pub found_few : (r : Rule) (p : Option ℕ) → IsLowestBad r p → (n : ℕ) → r.places < n → IfSome p (λ i. i < n)
+found_few r None h n l = tt
+found_few r (Some i) h n l = omega (arith, h.1, l)
 
 -- ---- for the loop that goes through the rules
 module _ (first : ℕ) (rs : List Rule) (k : ℕ) where

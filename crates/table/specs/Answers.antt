@@ -1,9 +1,7 @@
 -- 01, What a call can say: the number and the place of every answer. Promises speak of answers by `told` alone.
-use Rattle.std.specs.Prelude.{ℕ}
+use Rattle.std.specs.Prelude.{ℕ, Result, Ok, Err}
 use Rattle.table.specs.declared.Refusal.{Refusal}
 use Rattle.table.specs.declared.Refusal.TheVariants.{ChartForm, ChartCount, ChartLayout, ChartTree, ChartSpan, ChartLiteral, ChartItem, ChartSource, ChartTargets, FlatForm, FlatCount, FlatLayout, FlatMachine, FlatSpan, FlatLiteral, FlatItem, FlatRule, NoEvent, Signals, Outputs, Microsteps, State, Room}
-use Rattle.table.specs.declared.Verdict.{Verdict}
-use Rattle.table.specs.declared.Verdict.TheVariants.{Done, Refused}
 
 -- A refusal's number and place; "a place not named is 0".
 abbrev pub refusal_told : Refusal → ℕ × ℕ
@@ -31,7 +29,7 @@ refusal_told Microsteps = (23, 0)
 refusal_told State = (24, 0)
 refusal_told Room = (31, 0)
 
--- 0 is done.
-abbrev pub told : Verdict → ℕ × ℕ
-told Done = (0, 0)
-told (Refused r) = refusal_told r
+-- 0 is done, whatever is handed back.
+abbrev pub told : {T : Type 0} → Result T Refusal → ℕ × ℕ
+told (Ok x) = (0, 0)
+told (Err r) = refusal_told r

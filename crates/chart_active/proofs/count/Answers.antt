@@ -2,24 +2,17 @@
 use native.Mathlib.Omega.{arith}
 use mathlib.Core.Path.{◌≡◌, ap, ◌∙◌}
 use Rattle.chart.specs.View.{view}
-use Rattle.chart_rules.proofs.Readable.{chart_needs}
 use Rattle.chart_meaning.specs.Active.{or_rank}
 use Rattle.chart_meaning.specs.State.{or_states}
 use Rattle.chart_meaning.proofs.Tree.{tree}
 use Rattle.chart_meaning.proofs.Half.{ors_half}
 use Rattle.chart_active.proofs.count.Goals as goal
 
-pub rank_of-requires : goal.rank_of-requires
-rank_of-requires c = let pre = c.requires in (pre.0, pre.1, omega arith)
-
 pub returns : goal.returns
 unfolding or_rank or_states
 returns c =
-    let v = view c.args.t.now in
-    let few = c.requires.0.counts.states.1 in
-    let half = ors_half (tree c.requires.0) in
+    let v = view c.args.t.table.words.now in
+    let few = c.args.t.rules.counts.states.1 in
+    let half = ors_half (tree c.args.t.rules) in
     let is : c.rank_of.result ≡ or_states v = c.rank_of.ensures ∙ ap (or_rank v) c.head.ensures.is in
     record { is = is; few = omega arith }
-
-pub head-requires : goal.head-requires
-head-requires c = search chart_needs

@@ -12,23 +12,23 @@ use Rattle.chart_active.proofs.show.Goals as goal
 pub returns-then-not-is_up : goal.returns-then-not-is_up
 returns-then-not-is_up c =
     let s = c.args in
-    let w = tree c.requires.0 in
+    let w = tree c.args.t.rules in
     let words = s.current.now in
     let acts = cells s.acts in
-    let is-or = not_yes (is_and (view s.t.now) s.o) c.requires.2 in
-    let told = up_told w words s.o c.requires.1 is-or acts c.requires.4 in
+    let is-or = not_yes (is_and (view s.t.table.words.now) s.o) c.requires.1 in
+    let told = up_told w words s.o c.requires.0 is-or acts c.requires.3 in
     let up = c.is_up in
     let asleep = sym told ∙ sym up.ensures ∙ c.if-not-is_up.true in
-    shown_asleep w words s.o c.requires.1 is-or acts asleep c.requires.4
+    shown_asleep w words s.o c.requires.0 is-or acts asleep c.requires.3
 
 pub returns : goal.returns
 returns c =
     let s = c.args in
-    let w = tree c.requires.0 in
+    let w = tree c.args.t.rules in
     let words = s.current.now in
     let acts = cells s.acts in
-    let is-or = not_yes (is_and (view s.t.now) s.o) c.requires.2 in
-    let told = up_told w words s.o c.requires.1 is-or acts c.requires.4 in
+    let is-or = not_yes (is_and (view s.t.table.words.now) s.o) c.requires.1 in
+    let told = up_told w words s.o c.requires.0 is-or acts c.requires.3 in
     let up = c.is_up in
     let awake = sym told ∙ sym up.ensures ∙ c.if-not-is_up.false in
-    rw c.with_child.ensures (shown_awake w words s.o c.requires.1 is-or acts (cells_length s.acts) awake c.requires.4)
+    rw c.with_child.ensures (shown_awake w words s.o c.requires.0 is-or acts (cells_length s.acts) awake c.requires.3)

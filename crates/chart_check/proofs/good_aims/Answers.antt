@@ -7,13 +7,13 @@ use Rattle.chart_check.proofs.good_aims.Goals as goal
 
 pub aim_of-requires : goal.aim_of-requires
 aim_of-requires c =
-    let n = c.transition_word.ensures.is ∙ count_word c.args.t.now c.args.k in
-    (c.requires.0, c.requires.1, c.requires.2, omega (arith, n, c.if-transition_word-eq1.true))
+    let n = c.transition_word.ensures.is ∙ count_word c.args.t.words.now c.args.k in
+    (c.requires.0, c.requires.1, omega (arith, n, c.if-transition_word-eq1.true))
 
 pub returns-then-transition_word-eq1 : goal.returns-then-transition_word-eq1
 returns-then-transition_word-eq1 c =
     let s = c.args in
-    let v = view s.t.now in
-    let n = c.transition_word.ensures.is ∙ count_word s.t.now s.k in
+    let v = view s.t.words.now in
+    let n = c.transition_word.ensures.is ∙ count_word s.t.words.now s.k in
     c.is_and_state.ensures ∙ ap (and_state? v) c.aim_of.ensures.is
     ∙ one_target v s.k (sym n ∙ c.if-transition_word-eq1.true)

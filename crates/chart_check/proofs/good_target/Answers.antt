@@ -18,8 +18,5 @@ returns c =
 pub aim_of-this-requires : goal.aim_of-this-requires
 aim_of-this-requires c = c.requires
 
-pub is_and_state-requires : goal.is_and_state-requires
-is_and_state-requires c = c.requires.0
-
 pub apart_from-requires : goal.apart_from-requires
 apart_from-requires c = c.requires

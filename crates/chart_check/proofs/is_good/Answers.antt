@@ -6,17 +6,17 @@ use Rattle.chart_check.proofs.Walk.{holds}
 use Rattle.chart_check.proofs.Good.{readable_by, accepted_by}
 use Rattle.chart_check.proofs.is_good.Goals as goal
 
-pub are_states_good-requires : goal.are_states_good-requires
-are_states_good-requires c = readable_by c.args.t.now (holds c.is_laid_out.ensures c.if-not-is_laid_out.false)
+pub invariant_of-are_states_good : goal.invariant_of-are_states_good
+invariant_of-are_states_good c = record { readable = readable_by c.args.t.now (holds c.is_laid_out.ensures c.if-not-is_laid_out.false) }
 
-pub are_transitions_good-requires : goal.are_transitions_good-requires
-are_transitions_good-requires c = readable_by c.args.t.now (holds c.is_laid_out.ensures c.if-not-is_laid_out.false)
+pub invariant_of-are_transitions_good : goal.invariant_of-are_transitions_good
+invariant_of-are_transitions_good c = record { readable = readable_by c.args.t.now (holds c.is_laid_out.ensures c.if-not-is_laid_out.false) }
 
-pub are_literals_good-requires : goal.are_literals_good-requires
-are_literals_good-requires c = readable_by c.args.t.now (holds c.is_laid_out.ensures c.if-not-is_laid_out.false)
+pub invariant_of-are_literals_good : goal.invariant_of-are_literals_good
+invariant_of-are_literals_good c = record { readable = readable_by c.args.t.now (holds c.is_laid_out.ensures c.if-not-is_laid_out.false) }
 
-pub are_items_good-requires : goal.are_items_good-requires
-are_items_good-requires c = readable_by c.args.t.now (holds c.is_laid_out.ensures c.if-not-is_laid_out.false)
+pub invariant_of-are_items_good : goal.invariant_of-are_items_good
+invariant_of-are_items_good c = record { readable = readable_by c.args.t.now (holds c.is_laid_out.ensures c.if-not-is_laid_out.false) }
 
 pub returns : goal.returns
 returns c = λ e.

@@ -15,7 +15,7 @@ returns-then-not-good_source c =
 pub good_aims-requires : goal.good_aims-requires
 good_aims-requires c =
     let spans = holds c.good_transition_spans.ensures c.if-not-good_transition_spans.false in
-    (c.requires.0, c.requires.1, ((transition_spans (view c.args.t.now) c.args.k).told spans).targets)
+    (c.requires, ((transition_spans (view c.args.t.words.now) c.args.k).told spans).targets)
 
 pub returns : goal.returns
 returns c =

@@ -9,16 +9,16 @@ pub returns-then-not-is_state : goal.returns-then-not-is_state
 returns-then-not-is_state c =
     let s = c.args in
     let good = c.is_state in
-    no_state (view s.t.now) s.state.now s.event s.outputs.now
+    no_state (view s.t.table.words.now) s.state.now s.event s.outputs.now
     (sym good.ensures ∙ c.if-not-is_state.true)
 
-pub returns-then-head-wide : goal.returns-then-head-wide
-returns-then-head-wide c =
+pub returns-then-head-event : goal.returns-then-head-event
+returns-then-head-event c =
     let s = c.args in
     let good = c.is_state in
-    no_event (view s.t.now) s.state.now s.event s.outputs.now
+    no_event (view s.t.table.words.now) s.state.now s.event s.outputs.now
     (sym good.ensures ∙ c.if-not-is_state.false)
-    (rw (c.head.ensures.is, c.wide.ensures.is) at c.if-head-wide.true)
+    (rw c.head.ensures.is at c.if-head-event.true)
 
 pub run_state-requires : goal.run_state-requires
 run_state-requires c =
@@ -26,18 +26,17 @@ run_state-requires c =
     let words = c.count-words in
     let good = c.is_state in
     record {
-      rules = c.requires;
       ors_are = c.or_states-ors.ensures;
       number = words.ensures.is;
       few = words.ensures.few;
-      long = long_state (view s.t.now) s.state.now (sym good.ensures ∙ c.if-not-is_state.false);
+      long = long_state (view s.t.table.words.now) s.state.now (sym good.ensures ∙ c.if-not-is_state.false);
     }
 
 pub returns : goal.returns
 returns c =
     let s = c.args in
     let good = c.is_state in
-    let known = rw (c.wide.ensures.is, c.head.ensures.is) at c.if-head-wide.false in
+    let known = rw c.head.ensures.is at c.if-head-event.false in
     c.run_state.ensures
-    ∙ sym (good_call (view s.t.now) s.state.now s.event s.outputs.now
+    ∙ sym (good_call (view s.t.table.words.now) s.state.now s.event s.outputs.now
     (sym good.ensures ∙ c.if-not-is_state.false) known)

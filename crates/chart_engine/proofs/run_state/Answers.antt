@@ -8,12 +8,12 @@ pub returns-then-is_stopped : goal.returns-then-is_stopped
 returns-then-is_stopped c =
     let s = c.args in
     let ran = c.run-n in
-    run_stopped s.t.now s.state.now s.outputs.now ran.result _ _ s.event.0 s.words c.requires.number
-    ran.ensures (sym c.is_stopped.ensures ∙ c.if-is_stopped.true) _ c.refusal_of.ensures
+    run_stopped s.t.table.words.now s.state.now s.outputs.now ran.result _ _ s.event.0 s.words c.requires.number
+    ran.ensures (sym c.is_stopped.ensures ∙ c.if-is_stopped.true) _ c.refusal.ensures
 
 pub returns : goal.returns
 returns c =
     let s = c.args in
     let ran = c.run-n in
-    run_done s.t.now s.state.now s.outputs.now ran.result _ _ s.event.0 s.words c.requires.number
+    run_done s.t.table.words.now s.state.now s.outputs.now ran.result _ _ s.event.0 s.words c.requires.number
     ran.ensures (sym c.is_stopped.ensures ∙ c.if-is_stopped.false) _ c.finished_counts.ensures

@@ -1,4 +1,5 @@
 -- `chart_engine::start_accepted` meets its contract: initial children in front, and zeros behind them. Assumes nothing.
+use Rattle.std.specs.Prelude.{Ok}
 use Prim.Native.Nat.{ℕ, ◌+◌, ◌-◌}
 use mathlib.Core.Path.{◌≡◌, refl, sym, ap, ap₂, ◌∙◌}
 use mathlib.Core.Logic.{◌≢◌}
@@ -8,7 +9,6 @@ use lib.ListN.{length, take, drop, length-append, length-drop}
 use lib.Seq.{take_at}
 use Rattle.words.proofs.Tests.{eqb_yes, eqb_no}
 use Rattle.words.proofs.Ranks.{rank_length}
-use Rattle.table.specs.declared.Verdict.TheVariants.{Done}
 use Rattle.chart.specs.View.{Chart, view}
 use Rattle.chart_meaning.specs.Active.{is_or}
 use Rattle.effects.specs.Lent.{zeros, start_told}
@@ -33,7 +33,7 @@ pub returns-then-state-words : goal.returns-then-state-words
 unfolding started_on state_length
 returns-then-state-words c =
     let s = c.args in
-    let v = view s.t.now in
+    let v = view s.t.table.words.now in
     let other : length s.state.now ≢ or_states v + v.variables =
     λ e. c.if-state-words.true (omega (arith, c.count-words.ensures.is, c.head.ensures.is)) in
     rw (eqb_no other) refl
@@ -42,10 +42,10 @@ pub returns : goal.returns
 unfolding started_on state_length
 returns c =
     let s = c.args in
-    let v = view s.t.now in
+    let v = view s.t.table.words.now in
     let is = c.count-words.ensures.is in
     let n = c.head.ensures.is in
     let long : length s.state.now ≡ or_states v + v.variables = omega (arith, is, n) in
     rw (eqb_yes long)
-    (ap (start_told Done)
+    (ap (start_told (Ok tt))
     (laid_start v s.state.now _ _ _ is (omega (arith, n)) c.lay_initials.ensures c.clear.ensures))

@@ -7,7 +7,7 @@ use Rattle.chart_entered.proofs.child_toward.Given as goal
 
 abbrev pub invariant-loop-x : goal.invariant-loop-x
 invariant-loop-x l =
-    (l.x < (view l.t).states) × ((y : ℕ) → y < (view l.t).states → (view l.t).parent y ≡ l.o → within (view l.t) y l.j ≡ within (view l.t) y l.x)
+    (l.x < (view l.t.table.words.now).states) × ((y : ℕ) → y < (view l.t.table.words.now).states → (view l.t.table.words.now).parent y ≡ l.o → within (view l.t.table.words.now) y l.j ≡ within (view l.t.table.words.now) y l.x)
 
 abbrev pub decreases-loop-x : goal.decreases-loop-x
 decreases-loop-x l = l.x

@@ -10,7 +10,7 @@ use Rattle.chart_entered.proofs.entered_set.Given as goal
 
 abbrev pub invariant-loop-o : goal.invariant-loop-o
 invariant-loop-o l =
-    (l.o ≤ l.n) × (l.o < l.n → is_or (view l.t) l.o ≡ true) × Came (view l.t) l.current l.k l.o (cells l.entered)
+    (l.o ≤ l.n) × (l.o < l.n → is_or (view l.t.table.words.now) l.o ≡ true) × Came (view l.t.table.words.now) l.current l.k l.o (cells l.entered)
 
 abbrev pub decreases-loop-o : goal.decreases-loop-o
 decreases-loop-o l = l.n - l.o

@@ -14,7 +14,7 @@ abbrev pub invariant-loop-k : goal.invariant-loop-k
 invariant-loop-k l =
     (l.k ≤ l.transitions) × (length l.next ≡ length l.initial.next) × (length l.vars ≡ length l.initial.vars) × (length l.outs ≡ length l.initial.outs)
     × (length l.queue ≡ length l.initial.queue) × (l.k < l.transitions → get_or (cells l.taken) l.k false ≡ true)
-    × (going l.m l.next l.vars l.outs l.queue ≡ do_steps l.pairs (join_up (one (view l.t) l.initial.next (cells l.acts) (cells l.taken)) l.k) (going l.initial.m l.initial.next l.initial.vars l.initial.outs l.initial.queue))
+    × (going l.m l.next l.vars l.outs l.queue ≡ do_steps l.pairs (join_up (one (view l.t.table.words.now) l.initial.next (cells l.acts) (cells l.taken)) l.k) (going l.initial.m l.initial.next l.initial.vars l.initial.outs l.initial.queue))
 
 abbrev pub decreases-loop-k : goal.decreases-loop-k
 decreases-loop-k l = l.transitions - l.k

@@ -1,4 +1,5 @@
 -- `chart_microstep::run` meets its contract: what it returns is what its callees say. Assumes nothing.
+use mathlib.Core.Path.{refl}
 use Rattle.chart.specs.View.{view}
 use Rattle.states.specs.Cells.{cells}
 use Rattle.chart_microstep.proofs.Same.{took, machine_runs}
@@ -10,18 +11,15 @@ fire_all-requires c =
     let pre = c.requires in
     let acts = c.active_set-acts in
     let taken = c.taken_set-taken in
-    let takes = took (view s.t.now) _ s.next.now s.vars.now (cells acts.result) (cells taken.result) in
-    (pre.0, pre.1, takes acts.ensures taken.ensures)
+    let takes = took (view s.t.table.words.now) _ s.next.now s.vars.now (cells acts.result) (cells taken.result) in
+    (pre, takes acts.ensures taken.ensures)
 
 pub returns : goal.returns
 returns c =
     let s = c.args in
-    machine_runs (view s.t.now) _ s.next.now s.vars.now
+    machine_runs (view s.t.table.words.now) _ s.next.now s.vars.now
     (cells c.active_set-acts.result) (cells c.taken_set-taken.result) c.active_set-acts.ensures c.taken_set-taken.ensures
-    s.pairs s.e.0 _ _ c.wide.ensures.is c.fire_all.ensures
+    s.pairs s.e.0 _ _ refl c.fire_all.ensures
 
 pub active_set-acts-requires : goal.active_set-acts-requires
 active_set-acts-requires c = c.requires
-
-pub taken_set-taken-requires : goal.taken_set-taken-requires
-taken_set-taken-requires c = c.requires.0

@@ -20,7 +20,7 @@ abbrev pub invariant-loop-j : goal.invariant-loop-j
 invariant-loop-j l =
     (l.j ≤ l.states) × (length l.next ≡ length l.initial.next) × (length l.vars ≡ length l.initial.vars) × (length l.outs ≡ length l.initial.outs)
     × (length l.queue ≡ length l.initial.queue) × (l.j < l.states → get_or (cells l.entered) l.j false ≡ true)
-    × (going l.m l.next l.vars l.outs l.queue ≡ do_steps l.pairs (join_up (one (view l.t) (cells l.entered)) l.j) (going l.initial.m l.initial.next l.initial.vars l.initial.outs l.initial.queue))
+    × (going l.m l.next l.vars l.outs l.queue ≡ do_steps l.pairs (join_up (one (view l.t.table.words.now) (cells l.entered)) l.j) (going l.initial.m l.initial.next l.initial.vars l.initial.outs l.initial.queue))
 
 abbrev pub decreases-loop-j : goal.decreases-loop-j
 decreases-loop-j l = l.states - l.j

@@ -11,29 +11,9 @@ use Rattle.effects.specs.Run.{Step}
 use Rattle.effects.specs.Work.{Going, going, do_steps}
 use Rattle.effects.proofs.Members.{sunk, fallen}
 use Rattle.chart.specs.View.{view}
-use Rattle.chart_rules.proofs.Readable.{chart_needs}
 use Rattle.states.specs.Cells.{cells}
 use Rattle.chart_moves.proofs.Ands.{leave, leaves_ands}
 use Rattle.chart_moves.proofs.leave_all.Goals as goal
-
-pub last-j-requires : goal.last-j-requires
-last-j-requires c = omega (arith, c.head.ensures.is, c.requires.0.counts.states.1)
-
-pub loop-j-init : goal.loop-j-init
-loop-j-init c =
-    let e = c.last-j.ensures in
-    (omega (arith, e.up_to, c.head.ensures.is), refl, refl, refl, e.member, λ next. refl)
-
-pub leave_one-m-requires : goal.leave_one-m-requires
-leave_one-m-requires c = (c.requires.0, omega arith)
-
-pub last-j-requires-in-loop-j : goal.last-j-requires-in-loop-j
-last-j-requires-in-loop-j c =
-    let pre = c.requires in
-    omega (arith, c.loop-j.invariant.0, pre.0.counts.states.1)
-
-pub loop-j-smaller : goal.loop-j-smaller
-loop-j-smaller c = omega (arith, c.last-j-in-loop-j.ensures.up_to, c.loop-j-test.true)
 
 pub loop-j-preserved : goal.loop-j-preserved
 loop-j-preserved c =
@@ -42,7 +22,7 @@ loop-j-preserved c =
     let on = c.loop-j-test.true in
     let d = c.leave_one-m in
     let e = c.last-j-in-loop-j.ensures in
-    let v = view s.t.now in
+    let v = view s.t.table.words.now in
     let k : l.j ≡ suc (l.j - 1) = omega arith in
     let has = l.invariant.4 (l.j - 1) k in
     let ands = cells c.except-ands.result in (
@@ -63,27 +43,15 @@ returns c =
     let s = c.args in
     let pre = c.requires in
     let l = c.loop-j in
-    let v = view s.t.now in
+    let v = view s.t.table.words.now in
     let x = c.except-ands in
     let f = leave v (cells x.result) s.top in
     let start : List ℕ → Going = λ next. going s.n next s.vars.now s.outs.now s.queue.now in
     let z : l.j ≡ 0 = omega arith in
     λ next.
     sym (
-    ap (λ (xs : List Step). do_steps s.pairs xs (start next)) (leaves_ands v (cells s.acts) (cells s.ors) (cells x.result) s.top pre.1 x.ensures)
+    ap (λ (xs : List Step). do_steps s.pairs xs (start next)) (leaves_ands v (cells s.acts) (cells s.ors) (cells x.result) s.top pre x.ensures)
     ∙ ap (λ (k : ℕ). do_steps s.pairs (join_down f k) (start next)) (sym c.head.ensures.is)
     ∙ sunk s.pairs f (λ j. get_or (cells x.result) j false) (λ j no. rw no refl) _ _ (start next) c.last-j.ensures
     ∙ l.invariant.5 next
     ∙ ap (λ (k : ℕ). do_steps s.pairs (join_down f k) (going l.m next l.vars l.outs l.queue)) z)
-
-pub head-requires : goal.head-requires
-head-requires c = search chart_needs
-
-pub shape_of-vars : goal.shape_of-vars
-shape_of-vars c = c.loop-j.invariant.1
-
-pub shape_of-outs : goal.shape_of-outs
-shape_of-outs c = c.loop-j.invariant.2
-
-pub shape_of-queue : goal.shape_of-queue
-shape_of-queue c = c.loop-j.invariant.3

@@ -11,7 +11,7 @@ use Rattle.chart_state.proofs.good_words.Given as goal
 
 abbrev pub invariant-loop-o : goal.invariant-loop-o
 invariant-loop-o l =
-    (all_below (good_word? (view l.t) l.current) l.o ≡ true) × Going (view l.t) l.current l.o l.r (cells l.acts)
+    (all_below (good_word? (view l.t.table.words.now) l.current) l.o ≡ true) × Going (view l.t.table.words.now) l.current l.o l.r (cells l.acts)
 
 abbrev pub decreases-loop-o : goal.decreases-loop-o
 decreases-loop-o l = l.n - l.o

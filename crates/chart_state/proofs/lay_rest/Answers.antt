@@ -1,11 +1,10 @@
 -- `chart_state::lay_rest` meets its contract: the words of the or-states passed are laid, and the set shows the active states as far.
 -- Assumes nothing.
-use Prim.Native.Nat.{◌+◌, ◌-◌, ◌<◌}
+use Prim.Native.Nat.{◌+◌, ◌<◌}
 use mathlib.Core.Path.{◌≡◌, refl, ◌∙◌}
 use native.Mathlib.Omega.{arith}
 use lib.ListN.{set}
 use Rattle.chart.specs.View.{view}
-use Rattle.chart_rules.proofs.Readable.{chart_needs}
 use Rattle.states.specs.Cells.{cells}
 use Rattle.chart_meaning.specs.Active.{is_or, actives}
 use Rattle.chart_meaning.specs.Steps.{rest_word, rest}
@@ -13,38 +12,20 @@ use Rattle.chart_meaning.specs.State.{or_states}
 use Rattle.chart_meaning.proofs.Tree.{tree}
 use Rattle.chart_active.proofs.Shown.{shown_at}
 use Rattle.chart_active.proofs.Ors.{no_or, going_start, going_next}
-use Rattle.chart_state.proofs.Laid.{lay_next, lay_skip, lay_end, front_length, rest_cell}
+use Rattle.chart_state.proofs.Laid.{lay_next, lay_skip, lay_end, rest_cell}
 use Rattle.chart_state.proofs.lay_rest.Goals as goal
 
 pub loop-o-init : goal.loop-o-init
 loop-o-init c =
-    (record { place = refl; words = refl }, going_start (tree c.requires.0) c.args.current.now c.none-acts.ensures)
-
-pub show-acts-requires : goal.show-acts-requires
-show-acts-requires c =
-    let pre = c.requires in
-    let at = c.loop-o.invariant.1 in
-    (pre.0, omega arith, at.or_state (omega arith), at.place, at.shown)
-
-pub rest_word-requires : goal.rest_word-requires
-rest_word-requires c =
-    let pre = c.requires in
-    (pre.0, omega arith, c.loop-o.invariant.1.place)
-
-pub next-o-requires : goal.next-o-requires
-next-o-requires c =
-    let few = c.requires.0.counts.states.1 in
-    let below = c.loop-o-test.true in
-    let n = c.head-n.ensures.is in
-    (omega arith, omega arith)
+    (record { place = refl; words = refl }, going_start (tree c.args.t.rules) c.args.current.now c.none-acts.ensures)
 
 pub loop-o-preserved : goal.loop-o-preserved
 unfolding or_states
 loop-o-preserved c =
     let s = c.args in
-    let v = view s.t.now in
+    let v = view s.t.table.words.now in
     let words = s.current.now in
-    let w = tree c.requires.0 in
+    let w = tree c.args.t.rules in
     let ors = cells s.ors in
     let l = c.loop-o in
     let o = l.o in
@@ -61,33 +42,19 @@ loop-o-preserved c =
     let next = c.next-o.ensures in
     let laid =
     lay_next (is_or v) (rest_word v words (actives v words)) s.state.now v.states o l.r this.result l.state
-    (set l.state l.r this.result, l.r + 1) in_states c.requires.2 word l.invariant.0 (rw is-or refl) in (
+    (set l.state l.r this.result, l.r + 1) in_states c.requires.1 word l.invariant.0 (rw is-or refl) in (
       rw c.put.ensures
           (lay_skip (is_or v) (rest_word v words (actives v words)) s.state.now (o + 1) _ (l.r + 1) _ next.from
-          (no_or v ors c.requires.1 (o + 1) head.result _ n next) laid),
-      going_next w words ors c.requires.1 head.result o l.r _ (cells l.acts) _ n below l.invariant.1 show.ensures next,
+          (no_or v ors c.requires.0 (o + 1) head.result _ n next) laid),
+      going_next w words ors c.requires.0 head.result o l.r _ (cells l.acts) _ n below l.invariant.1 show.ensures next,
     )
-
-pub shape_of-state : goal.shape_of-state
-unfolding or_states
-shape_of-state c =
-    let s = c.args in
-    let v = view s.t.now in
-    let words = s.current.now in
-    let l = c.loop-o in
-    let e : l.o ≡ v.states = omega arith in
-    front_length (is_or v) (rest_word v words (actives v words)) s.state.now l.o l.r l.state
-    (rw e c.requires.2) l.invariant.0
 
 pub returns : goal.returns
 unfolding or_states rest
 returns c =
     let s = c.args in
-    let v = view s.t.now in
+    let v = view s.t.table.words.now in
     let words = s.current.now in
     let l = c.loop-o in
     let e : l.o ≡ v.states = omega arith in
     lay_end (is_or v) (rest_word v words (actives v words)) s.state.now v.states l.o l.r l.state e l.invariant.0
-
-pub head-n-requires : goal.head-n-requires
-head-n-requires c = search chart_needs

@@ -10,8 +10,8 @@ use Rattle.chart_state.proofs.lay_rest.Given as goal
 
 abbrev pub invariant-loop-o : goal.invariant-loop-o
 invariant-loop-o l =
-    Front (is_or (view l.t)) (rest_word (view l.t) l.current (actives (view l.t) l.current)) l.initial.state l.o l.r l.state
-    × Going (view l.t) l.current l.o l.r (cells l.acts)
+    Front (is_or (view l.t.table.words.now)) (rest_word (view l.t.table.words.now) l.current (actives (view l.t.table.words.now) l.current)) l.initial.state l.o l.r l.state
+    × Going (view l.t.table.words.now) l.current l.o l.r (cells l.acts)
 
 abbrev pub decreases-loop-o : goal.decreases-loop-o
 decreases-loop-o l = l.n - l.o

@@ -1,6 +1,5 @@
 -- `chart_taken::is_above_all` meets its contract: what it returns is what its callees say. Assumes nothing.
 use mathlib.Core.Path.{refl, sym, ◌∙◌}
-use Rattle.chart_rules.proofs.Readable.{chart_needs}
 use Rattle.chart_meaning.specs.Scope.{above_all}
 use Rattle.chart_taken.proofs.is_above_all.Goals as goal
 
@@ -10,7 +9,4 @@ returns-then-is_and c = rw (sym c.is_and.ensures ∙ c.if-is_and.true) refl
 
 pub returns : goal.returns
 unfolding above_all
-returns c = rw (sym c.is_and.ensures ∙ c.if-is_and.false, c.requires.3) c.all_beneath.ensures
-
-pub is_and-requires : goal.is_and-requires
-is_and-requires c = search chart_needs
+returns c = rw (sym c.is_and.ensures ∙ c.if-is_and.false, c.requires.2) c.all_beneath.ensures

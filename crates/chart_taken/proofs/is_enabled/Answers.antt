@@ -3,9 +3,7 @@ use Prim.Native.Nat.{ℕ}
 use mathlib.Core.Path.{ap, ◌∙◌}
 use mathlib.Core.Bool.{Bool, false}
 use lib.ListN.{get_or}
-use native.Mathlib.Omega.{arith}
 use Rattle.words.proofs.Tests.{eqb_yes, eqb_no}
-use Rattle.chart_rules.proofs.Readable.{chart_needs}
 use Rattle.states.specs.Cells.{cells}
 use Rattle.states.specs.declared.StateSet.{StateSet}
 use Rattle.chart_meaning.specs.Taken.{enabled}
@@ -18,11 +16,6 @@ in? s k = get_or (cells s) k false
 pub returns-then-transition_word_at-e : goal.returns-then-transition_word_at-e
 unfolding enabled
 returns-then-transition_word_at-e c = rw (← c.transition_word_at.ensures.is, eqb_no c.if-transition_word_at-e.true)
-
-pub has_in-requires : goal.has_in-requires
-has_in-requires c =
-    let source = (c.requires.0.sources c.args.k c.requires.1).source_in in
-    omega (arith, source, c.transition_word_at-2.ensures.is, c.requires.0.counts.states.1)
 
 pub returns-then-not-has_in : goal.returns-then-not-has_in
 unfolding enabled
@@ -42,9 +35,3 @@ returns c =
     let matched = eqb_yes c.if-transition_word_at-e.false in
     let in_source = c.if-not-has_in.false in
     rw (← trigger, matched, ← source, in_source) c.meets_condition.ensures
-
-pub transition_word_at-requires : goal.transition_word_at-requires
-transition_word_at-requires c = search chart_needs
-
-pub transition_word_at-requires-2 : goal.transition_word_at-requires-2
-transition_word_at-requires-2 c = search chart_needs

@@ -26,7 +26,7 @@ pub record Passed (c : Chart) (taken : List Bool) (k s : ℕ) : Type 0 where
   pub member : s < k → get_or taken s false ≡ true
 
 abbrev pub invariant-loop-s : goal.invariant-loop-s
-invariant-loop-s l = Passed (view l.t) (cells l.taken) l.k l.s
+invariant-loop-s l = Passed (view l.t.table.words.now) (cells l.taken) l.k l.s
 
 abbrev pub decreases-loop-s : goal.decreases-loop-s
 decreases-loop-s l = l.k - l.s

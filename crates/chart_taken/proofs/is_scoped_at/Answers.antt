@@ -10,6 +10,6 @@ pub returns : goal.returns
 unfolding scoped
 returns c =
     let s = c.args in
-    let n = transition_at s.t.now s.k in
+    let n = transition_at s.t.words.now s.k in
     let behind : n + 7 ≡ n + 6 + 1 = omega arith in
     rw (c.transition_word_at.ensures.is, behind)

@@ -3,7 +3,6 @@
 use mathlib.Core.Path.{sym, ap, ◌∙◌}
 use native.Mathlib.Omega.{arith}
 use Rattle.chart.specs.View.{view}
-use Rattle.chart_rules.proofs.Readable.{chart_readable, chart_needs}
 use Rattle.chart_rules.proofs.Told.{parent_smaller}
 use Rattle.chart_meaning.specs.Scope.{above_all}
 use Rattle.chart_taken.proofs.Scope.{at_source, at_root, above_source, found, not_yet}
@@ -13,26 +12,23 @@ pub loop-o-init : goal.loop-o-init
 loop-o-init c =
     let s = c.args in
     let pre = c.requires in
-    rw c.transition_word_at-o.ensures.is (at_source (view s.t.now) s.k (pre.0.sources s.k pre.1).source_in)
-
-pub state_word-o-requires : goal.state_word-o-requires
-state_word-o-requires c = (chart_readable c.requires.0, c.loop-o.invariant.state, omega arith)
+    rw c.transition_word_at-o.ensures.is (at_source (view s.t.table.words.now) s.k (c.args.t.rules.sources s.k pre.0).source_in)
 
 pub is_above_all-requires : goal.is_above_all-requires
 is_above_all-requires c =
-    let rules = c.requires.0 in
+    let rules = c.args.t.rules in
     let l = c.loop-o in
-    let up = parent_smaller (view c.args.t.now) l.o (rules.places l.o l.invariant.state) (λ z. omega arith) in
-    let source = (rules.sources c.args.k c.requires.1).source_in in
-    let above = above_source (view c.args.t.now) c.args.k l.o l.invariant up source in
-    (rules, c.requires.1, omega (arith, c.state_word-o.ensures.is, l.invariant.state), rw c.state_word-o.ensures.is above, c.requires.2)
+    let up = parent_smaller (view c.args.t.table.words.now) l.o (rules.places l.o l.invariant.state) (λ z. omega arith) in
+    let source = (rules.sources c.args.k c.requires.0).source_in in
+    let above = above_source (view c.args.t.table.words.now) c.args.k l.o l.invariant up source in
+    (c.requires.0, omega (arith, c.state_word-o.ensures.is, l.invariant.state), rw c.state_word-o.ensures.is above, c.requires.1)
 
 pub returns-then-is_above_all : goal.returns-then-is_above_all
 returns-then-is_above_all c =
     let s = c.args in
     let l = c.loop-o in
-    let v = view s.t.now in
-    let rules = c.requires.0 in
+    let v = view s.t.table.words.now in
+    let rules = c.args.t.rules in
     let up = parent_smaller v l.o (rules.places l.o l.invariant.state) (λ z. omega arith) in
     let parent = c.state_word-o.ensures.is in
     let told = ap (above_all v s.k) (sym parent) ∙ sym c.is_above_all.ensures ∙ c.if-is_above_all.true in
@@ -42,16 +38,16 @@ pub loop-o-smaller : goal.loop-o-smaller
 loop-o-smaller c =
     let s = c.args in
     let l = c.loop-o in
-    let rules = c.requires.0 in
-    let up = parent_smaller (view s.t.now) l.o (rules.places l.o l.invariant.state) (λ z. omega arith) in
+    let rules = c.args.t.rules in
+    let up = parent_smaller (view s.t.table.words.now) l.o (rules.places l.o l.invariant.state) (λ z. omega arith) in
     omega arith
 
 pub loop-o-preserved : goal.loop-o-preserved
 loop-o-preserved c =
     let s = c.args in
     let l = c.loop-o in
-    let v = view s.t.now in
-    let rules = c.requires.0 in
+    let v = view s.t.table.words.now in
+    let rules = c.args.t.rules in
     let up = parent_smaller v l.o (rules.places l.o l.invariant.state) (λ z. omega arith) in
     let parent = c.state_word-o.ensures.is in
     let told = ap (above_all v s.k) (sym parent) ∙ sym c.is_above_all.ensures ∙ c.if-is_above_all.false in
@@ -61,7 +57,4 @@ pub returns : goal.returns
 returns c =
     let s = c.args in
     let l = c.loop-o in
-    record { is = at_root (view s.t.now) s.k l.o c.loop-o-test.false l.invariant; small = l.invariant.state }
-
-pub transition_word_at-o-requires : goal.transition_word_at-o-requires
-transition_word_at-o-requires c = search chart_needs
+    record { is = at_root (view s.t.table.words.now) s.k l.o c.loop-o-test.false l.invariant; small = l.invariant.state }

@@ -4,7 +4,7 @@ use Rattle.chart_taken.proofs.Scope.{Under}
 use Rattle.chart_taken.proofs.scope_at.Given as goal
 
 abbrev pub invariant-loop-o : goal.invariant-loop-o
-invariant-loop-o l = Under (view l.t) l.k l.o
+invariant-loop-o l = Under (view l.t.table.words.now) l.k l.o
 
 abbrev pub decreases-loop-o : goal.decreases-loop-o
 decreases-loop-o l = l.o

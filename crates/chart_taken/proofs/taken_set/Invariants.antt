@@ -1,5 +1,4 @@
--- What the loops of `chart_taken::taken_set` keep, and what grows smaller.
-use Prim.Native.Nat.{◌-◌, ◌≤◌}
+-- What the loop of `chart_taken::taken_set` keeps.
 use mathlib.Core.Path.{◌≡◌}
 use lib.ListN.{length}
 use Rattle.chart.specs.View.{view, transition_at}
@@ -10,8 +9,4 @@ use Rattle.chart_taken.proofs.taken_set.Given as goal
 
 abbrev pub invariant-loop-k : goal.invariant-loop-k
 invariant-loop-k l =
-    (l.k ≤ l.n) × (l.at ≡ transition_at l.t l.k) × (length (cells l.taken) ≡ 48)
-    × Filled (taken_at (view l.t) l.e (cells l.acts) l.vars) l.k (cells l.taken)
-
-abbrev pub decreases-loop-k : goal.decreases-loop-k
-decreases-loop-k l = l.n - l.k
+    (l.at ≡ transition_at l.t.table.words.now l.k) × (length (cells l.taken) ≡ 48) × Filled (taken_at (view l.t.table.words.now) l.e (cells l.acts) l.vars) l.k (cells l.taken)

@@ -1,12 +1,6 @@
--- What the loops of `copies::load` keep, and what grows smaller.
-use Prim.Native.Nat.{◌-◌, ◌≤◌}
-use mathlib.Core.Path.{◌≡◌}
-use lib.ListN.{length, take, drop}
-use lib.Seq.{paste}
+-- What the loop of `copies::load` keeps: the words below i are copied.
+use Rattle.std.proofs.Common.{◌≡◌, take, drop}
 use Rattle.copies.proofs.load.Given as goal
 
 abbrev pub invariant-loop-i : goal.invariant-loop-i
-invariant-loop-i l = (l.i ≤ length l.initial.to) × (length l.to ≡ length l.initial.to) × (l.to ≡ paste l.initial.to 0 (take (length l.initial.to) (drop l.at l.from)) l.i)
-
-abbrev pub decreases-loop-i : goal.decreases-loop-i
-decreases-loop-i l = length l.initial.to - l.i
+invariant-loop-i l = take l.i l.to ≡ take l.i (drop l.at l.from)

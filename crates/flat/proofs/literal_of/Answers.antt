@@ -29,5 +29,5 @@ pub returns-in_default : goal.returns-in_default
 unfolding flat_literal_of
 returns-in_default c =
     let k = c.args.kind in
-    let e : k ≡ suc (suc (suc (suc (suc (k - 5))))) = omega (arith, c.in_default.in_default-own.rest.1, c.in_default.in_default-own.rest.0.1, c.in_default.in_default-own.rest.0.0.1, c.in_default.in_default-own.rest.0.0.0.1, c.in_default.in_default-own.rest.0.0.0.0.1) in
+    let e : k ≡ suc (suc (suc (suc (suc (k - 5))))) = omega arith in
     rw e

@@ -1,5 +1,4 @@
 -- `flat_check::check` meets its contract: the rules passed are kept, so the answer is that of those left. Assumes nothing.
-use borrow.Author.Rules.{rules}
 use Prim.Native.Nat.{ℕ, zero, suc, ◌+◌, ◌<◌, ◌≤◌}
 use mathlib.Core.Path.{◌≡◌, refl, sym, ap, ap₂, ◌∙◌}
 use mathlib.Core.List.{List}
@@ -20,42 +19,30 @@ one_place t (suc (suc (suc k))) h = absurd (omega arith)
 
 pub loop-k-init : goal.loop-k-init
 unfolding flat_answer
-loop-k-init c = (omega arith, refl, λ j h. absurd (not-suc-le-zero h))
-
-pub lowest_bad-p-requires : goal.lowest_bad-p-requires
-lowest_bad-p-requires c = (c.loop-k-test.true, search rules, c.places_of-places.ensures.is, c.loop-k.invariant.2)
+loop-k-init c = (refl, λ j h. absurd (not-suc-le-zero h))
 
 pub flat_refusal-requires : goal.flat_refusal-requires
 flat_refusal-requires c =
-    let t = c.args.t.now in
     let k = c.loop-k.k in
-    let e = c.places_of-places.ensures.is in
-    let small = c.places_of-places.ensures.small in
-    (omega arith, omega arith, omega (arith, small), λ h. omega (arith, one_place t k (omega arith)))
+    let bad = rw c.in-Some.is at c.lowest_bad.ensures.is in
+    let small = rw c.in-Some.is at c.lowest_bad.ensures.small in
+    (omega arith, omega (arith, c.loop-k-test.true), omega (arith, small), λ h. omega (arith, bad.1, one_place c.args.t.now k (omega arith)))
 
-pub returns-then-p-places : goal.returns-then-p-places
-returns-then-p-places c =
+pub returns-in-Some : goal.returns-in-Some
+returns-in-Some c =
     let t = c.args.t.now in
     let l = c.loop-k in
-    let p = c.lowest_bad-p.ensures.is in
-    let n = c.places_of-places.ensures.is in
-    let a_rule = c.loop-k-test.true in
+    let bad = rw c.in-Some.is at c.lowest_bad.ensures.is in
     let order : l.k + 11 ≡ 11 + l.k = omega arith in
-    c.flat_refusal.ensures ∙ ap₂ (λ (x y : ℕ). (x, y)) order p
-    ∙ sym (l.invariant.1 ∙ broken_here 11 (flat_rules t) l.k a_rule (omega (arith, p, n)))
+    c.flat_refusal.ensures ∙ ap₂ (λ (x y : ℕ). (x, y)) order bad.0
+    ∙ sym (l.invariant.0 ∙ broken_here 11 (flat_rules t) l.k c.loop-k-test.true (omega (arith, bad.0, bad.1)))
 
 pub loop-k-preserved : goal.loop-k-preserved
 loop-k-preserved c =
     let t = c.args.t.now in
     let l = c.loop-k in
-    let p = c.lowest_bad-p.ensures.is in
-    let n = c.places_of-places.ensures.is in
-    let a_rule = c.loop-k-test.true in
-    let none : (rule_numbered (flat_rules t) l.k).places ≤ lowest_bad (rule_numbered (flat_rules t) l.k) = omega (arith, p, n) in (
-      omega arith,
-      l.invariant.1 ∙ kept_here 11 (flat_rules t) l.k a_rule none,
-      kept_next (flat_rules t) l.k l.invariant.2 none,
-    )
+    let none : (rule_numbered (flat_rules t) l.k).places ≤ lowest_bad (rule_numbered (flat_rules t) l.k) = rw c.in_default.is at c.lowest_bad.ensures.is in
+    (l.invariant.0 ∙ kept_here 11 (flat_rules t) l.k c.loop-k-test.true none, kept_next (flat_rules t) l.k l.invariant.1 none)
 
 pub returns : goal.returns
 unfolding answer
@@ -63,4 +50,4 @@ returns c =
     let l = c.loop-k in
     let t = c.args.t.now in
     let e : l.k ≡ 8 = omega arith in
-    sym (l.invariant.1 ∙ ap (λ (k : ℕ). answer (11 + k) (drop k (flat_rules t))) e)
+    sym (l.invariant.0 ∙ ap (λ (k : ℕ). answer (11 + k) (drop k (flat_rules t))) e)

@@ -1,43 +1,20 @@
--- `flat_check::lowest_bad` meets its contract: what is to be found is to be found among the places left. Assumes nothing.
-use mathlib.Core.Path.{◌≡◌, sym, ap, ◌∙◌}
-use native.Mathlib.Omega.{arith}
-use Rattle.words.specs.Loops.{first_bad}
-use Rattle.words.proofs.Loops.{start, good, bad, none}
-use Rattle.table.specs.Check.{rule_numbered}
+-- `flat_check::lowest_bad` meets its contract: the closure says of each place whether it breaks the rule. Assumes nothing.
+use Rattle.std.proofs.Common.{rules, tests, arith, ◌≡◌, true, false}
+use Rattle.std.proofs.lemmas.Iterator.{first_from_Range, serves_from_Range}
+use Rattle.table.specs.Check.{Rule, rule_numbered}
+use Rattle.table.proofs.Check.{lowest_found, found_few}
 use Rattle.flat_check.specs.Answer.{flat_rules}
 use Rattle.flat_check.proofs.lowest_bad.Goals as goal
 
-pub loop-i-init : goal.loop-i-init
-loop-i-init c =
-    let s = c.args in
-    let ok = (rule_numbered (flat_rules s.t.now) s.k).keeps in
-    (omega arith, ap (first_bad ok 0) (sym c.requires.2) ∙ start ok s.places)
-
-pub keeps-requires : goal.keeps-requires
-keeps-requires c =
-    let p = c.requires in
-    (p.0, omega (arith, p.2, c.loop-i-test.true), p.3)
-
-pub returns-then-not-keeps : goal.returns-then-not-keeps
-returns-then-not-keeps c =
-    let s = c.args in
-    let l = c.loop-i in
-    let ok = (rule_numbered (flat_rules s.t.now) s.k).keeps in
-    let fails = sym c.keeps.ensures ∙ c.if-not-keeps.true in
-    record { is = sym (l.invariant.1 ∙ bad ok l.i s.places c.loop-i-test.true fails); small = l.invariant.0 }
-
-pub loop-i-preserved : goal.loop-i-preserved
-loop-i-preserved c =
-    let s = c.args in
-    let l = c.loop-i in
-    let ok = (rule_numbered (flat_rules s.t.now) s.k).keeps in
-    let holds = sym c.keeps.ensures ∙ c.if-not-keeps.false in
-    (omega arith, l.invariant.1 ∙ good ok l.i s.places c.loop-i-test.true holds)
+pub find-requires-clause-callable : goal.find-requires-clause-callable
+find-requires-clause-callable c = serves_from_Range (λ x q k. search (rules, tests)) (λ x low high y is _ _ _ _ _ _ _ _ _.
+    (c.requires.0, omega (arith, is, high, c.places_of.ensures.is), c.requires.1))
 
 pub returns : goal.returns
 returns c =
-    let s = c.args in
-    let l = c.loop-i in
-    let ok = (rule_numbered (flat_rules s.t.now) s.k).keeps in
-    let e : s.places ≡ l.i = omega arith in
-    record { is = sym (l.invariant.1 ∙ none ok l.i s.places l.invariant.0 c.loop-i-test.false ∙ e); small = l.invariant.0 }
+    let r : Rule = rule_numbered (flat_rules c.args.t.now) c.args.k in
+    let n = c.places_of.ensures in
+    let is = lowest_found r c.places_of.result n.is c.find.result
+    (first_from_Range _ _ _ c.find.result (λ i. r.keeps i ≡ false) (λ i. r.keeps i ≡ true) c.find.ensures.ran
+    (λ x q k. search (rules, tests)) (λ x q k. search (rules, tests))) in
+    record { is = is; small = found_few r c.find.result is 200000 (omega (arith, n.is, n.small)) }

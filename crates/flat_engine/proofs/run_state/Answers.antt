@@ -3,9 +3,7 @@
 use Prim.Native.Nat.{ℕ, ◌+◌}
 use native.Mathlib.Nat.{le_of_eq, le_trans}
 use mathlib.Core.Path.{sym, ap, ◌∙◌}
-use lib.Dec.{lit<}
-use Rattle.flat.specs.View.{flat_view}
-use Rattle.flat_rules.proofs.Readable.{flat_readable}
+use Rattle.flat.specs.Shown.{shown}
 use Rattle.flat_meaning.specs.State.{flat_length}
 use Rattle.flat_engine.proofs.Finished.{run_stopped, run_done}
 use Rattle.flat_engine.proofs.Lengths.{words_in, vars_few}
@@ -15,11 +13,10 @@ pub run-n-requires : goal.run-n-requires
 unfolding flat_length
 run-n-requires c =
     let pre = c.requires in
-    let counts = pre.0.counts in
+    let counts = c.args.t.rules.counts in
     let is = c.head-machines.ensures.is in
-    let long = pre.2 ∙ ap (λ (n : ℕ). n + (flat_view c.args.t.now).variables) (sym is) in (
+    let long = pre.1 ∙ ap (λ (n : ℕ). n + (shown c.args.t.table).variables) (sym is) in (
       pre.0,
-      pre.1,
       is,
       le_trans (le_of_eq is) counts.machines.1,
       words_in _ _ _ long,
@@ -30,15 +27,12 @@ pub returns-then-is_stopped : goal.returns-then-is_stopped
 returns-then-is_stopped c =
     let s = c.args in
     let ran = c.run-n in
-    run_stopped s.state.now s.outputs.now ran.result _ _ s.t.now s.event.0 _ c.head-machines.ensures.is
-    ran.ensures (sym c.is_stopped.ensures ∙ c.if-is_stopped.true) _ c.refusal_of.ensures
+    run_stopped s.state.now s.outputs.now ran.result _ _ s.t.table.words.now s.event.0 _ c.head-machines.ensures.is
+    ran.ensures (sym c.is_stopped.ensures ∙ c.if-is_stopped.true) _ c.refusal.ensures
 
 pub returns : goal.returns
 returns c =
     let s = c.args in
     let ran = c.run-n in
-    run_done s.state.now s.outputs.now ran.result _ _ s.t.now s.event.0 _ c.head-machines.ensures.is
+    run_done s.state.now s.outputs.now ran.result _ _ s.t.table.words.now s.event.0 _ c.head-machines.ensures.is
     ran.ensures (sym c.is_stopped.ensures ∙ c.if-is_stopped.false) _ c.finished_counts.ensures
-
-pub head-machines-requires : goal.head-machines-requires
-head-machines-requires c = (flat_readable c.requires.0, lit< tt)

@@ -4,7 +4,7 @@ use mathlib.Core.Path.{◌≡◌}
 use lib.ListN.{length, take, drop}
 use Rattle.effects.specs.Run.{macrostep}
 use Rattle.effects.specs.Lent.{pairs_for}
-use Rattle.flat.specs.View.{flat_view}
+use Rattle.flat.specs.Shown.{shown}
 use Rattle.flat_meaning.specs.Steps.{flat_machine}
 use Rattle.macrostep.proofs.Passes.{Before}
 use Rattle.flat_macrostep.proofs.pass.Given as goal
@@ -14,7 +14,7 @@ invariant-loop-event l =
     (length l.marks ≡ length l.initial.marks) × (length l.next ≡ length l.initial.next)
     × (length l.vars ≡ length l.initial.vars) × (length l.queue ≡ length l.initial.queue)
     × (l.outputs ≡ l.initial.outputs)
-    × Before l.initial.outputs l.first l.lent (macrostep (flat_view l.t).events (pairs_for (length l.initial.outputs)) (flat_machine (flat_view l.t))
+    × Before l.initial.outputs l.first l.lent (macrostep (shown l.t.table).events (pairs_for (length l.initial.outputs)) (flat_machine (shown l.t.table))
     l.event.0 (take (length l.initial.next) l.state) (drop (length l.initial.next) l.state))
 
 abbrev pub decreases-loop-event : goal.decreases-loop-event

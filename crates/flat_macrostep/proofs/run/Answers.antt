@@ -8,7 +8,7 @@ use lib.Seq.{length-take-le}
 use Rattle.effects.specs.declared.Progress.{Progress}
 use Rattle.effects.specs.Run.{Machine, macrostep}
 use Rattle.effects.specs.Lent.{pairs_for, zeros}
-use Rattle.flat.specs.View.{flat_view}
+use Rattle.flat.specs.Shown.{shown}
 use Rattle.flat_meaning.specs.Steps.{flat_machine}
 use Rattle.macrostep.specs.Ends.{Ends}
 use Rattle.flat_macrostep.proofs.Lengths.{vars_few, in_two}
@@ -21,36 +21,21 @@ as_many : (events pairs : ℕ) (m : Machine) (state outputs : List ℕ) (e j k :
 as_many events pairs m state outputs e j k n state' outputs' z ends = rw z at ends
 
 pub slice_bounds-run_on-end : goal.slice_bounds-run_on-end
-slice_bounds-run_on-end c = sym (length-take-le c.args.words (zeros 24) c.requires.3)
-
-pub slice_bounds-vars-end : goal.slice_bounds-vars-end
-slice_bounds-vars-end c = vars_few _ _ c.requires.5
-
-pub slice_bounds-run_on-end-2 : goal.slice_bounds-run_on-end-2
-slice_bounds-run_on-end-2 c =
-    let s = c.args in
-    sym (length-take-le (length s.state.now - s.words) (zeros 16)
-    (vars_few _ _ c.requires.5))
-
-pub slice_bounds-run_on-end-3 : goal.slice_bounds-run_on-end-3
-slice_bounds-run_on-end-3 c =
-    let first = c.first_of-first in
-    sym (length-take-le first.result (zeros 12) first.ensures.1)
+slice_bounds-run_on-end c = sym (length-take-le c.args.words (zeros 24) c.requires.2)
 
 pub run_on-requires : goal.run_on-requires
 run_on-requires c =
     let pre = c.requires in
     let s = c.args in
     let first = c.first_of-first in
-    let next = length-take-le s.words (zeros 24) pre.3 in
-    let vars = length-take-le (length s.state.now - s.words) (zeros 16) (vars_few _ _ pre.5) in
+    let next = length-take-le s.words (zeros 24) pre.2 in
+    let vars = length-take-le (length s.state.now - s.words) (zeros 16) (vars_few _ _ pre.4) in
     let kept = length-take-le first.result (zeros 12) first.ensures.1 in (
-      pre.0,
       record {
-        bits = pre.1;
-        next_long = next ∙ pre.2;
-        few = le_trans (le_of_eq next) pre.3;
-        state_long = in_two _ _ _ _ pre.4 next vars;
+        bits = pre.0;
+        next_long = next ∙ pre.1;
+        few = le_trans (le_of_eq next) pre.2;
+        state_long = in_two _ _ _ _ pre.3 next vars;
         queue_long = refl;
       },
       le_trans (le_of_eq kept) first.ensures.0,
@@ -59,15 +44,6 @@ run_on-requires c =
 pub returns : goal.returns
 returns c =
     let s = c.args in
-    let f = flat_view s.t.now in
+    let f = shown s.t.table in
     as_many f.events (pairs_for (length s.outputs.now)) (flat_machine f) s.state.now s.outputs.now s.event.0 _ s.words
-    _ _ _ (length-take-le s.words (zeros 24) c.requires.3) c.run_on.ensures
-
-pub overflow_sub-v : goal.overflow_sub-v
-overflow_sub-v c = c.requires.4
-
-pub slice_bounds-next-end : goal.slice_bounds-next-end
-slice_bounds-next-end c = c.requires.3
-
-pub slice_bounds-kept-end : goal.slice_bounds-kept-end
-slice_bounds-kept-end c = c.first_of-first.ensures.1
+    _ _ _ (length-take-le s.words (zeros 24) c.requires.2) c.run_on.ensures

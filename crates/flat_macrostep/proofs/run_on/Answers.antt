@@ -10,7 +10,6 @@ use Rattle.effects.specs.declared.Progress.{Progress}
 use Rattle.effects.specs.Run.{Result, St}
 use Rattle.effects.specs.Work.{stopped?}
 use Rattle.macrostep.specs.Ends.{handed, Ends}
-use Rattle.flat_macrostep.proofs.Lengths.{words_in, both_fill, few_words}
 use Rattle.flat_macrostep.proofs.run_on.Goals as goal
 
 module _ (before lent : List ℕ) (n : Progress) (words vars outs : List ℕ) (meant : Result St) where
@@ -31,27 +30,10 @@ module _ (before lent : List ℕ) (n : Progress) (words vars outs : List ℕ) (m
       let is : stored ≡ words ++ vars = z ∙ ap (λ (x : List ℕ). x ++ vars) front in
       rw is (rw h at e)
 
-pub pass-n-requires : goal.pass-n-requires
-pass-n-requires c = let pre = c.requires in (pre.0, pre.1, pre.2)
-
 pub returns-then-is_stopped : goal.returns-then-is_stopped
 returns-then-is_stopped c =
     let s = c.args in
     stays s.state.now s.outputs.now c.pass-n.result _ _ _ _ (sym c.is_stopped.ensures ∙ c.if-is_stopped.true) c.pass-n.ensures
-
-pub lay-requires : goal.lay-requires
-lay-requires c =
-    words_in _ _ _ c.requires.1.state_long _
-    c.next-1.given
-
-pub store-requires : goal.store-requires
-store-requires c =
-    let sized = c.requires.1 in
-    let long = c.next-1.given in (
-      few_words _ _ sized.few long,
-      both_fill _ _ _ sized.state_long _ _ _ long c.vars-1.given
-          c.state-1.given,
-    )
 
 pub returns : goal.returns
 returns c =

@@ -3,7 +3,7 @@ use Prim.Native.Nat.{◌-◌, ◌≤◌}
 use mathlib.Core.Path.{◌≡◌}
 use lib.ListN.{length}
 use Rattle.words.specs.Next.{Next}
-use Rattle.flat.specs.View.{flat_view}
+use Rattle.flat.specs.Shown.{shown}
 use Rattle.flat_microstep.specs.Stretch.{has?}
 use Rattle.flat_microstep.proofs.Asking.{AskedBelow}
 use Rattle.flat_microstep.proofs.ask.Given as goal
@@ -11,7 +11,7 @@ use Rattle.flat_microstep.proofs.ask.Given as goal
 abbrev pub invariant-loop-k : goal.invariant-loop-k
 invariant-loop-k l =
     (l.from ≤ l.until) × (length l.marks ≡ length l.initial.marks)
-    × Next (has? (flat_view l.t) l.e) l.until l.rules l.k × AskedBelow (flat_view l.t) l.e l.marks l.until
+    × Next (has? (shown l.t.table) l.e) l.until l.rules l.k × AskedBelow (shown l.t.table) l.e l.marks l.until
 
 abbrev pub decreases-loop-k : goal.decreases-loop-k
 decreases-loop-k l = l.rules - l.k

@@ -6,19 +6,17 @@ use Rattle.words.specs.Loops.{join_up}
 use Rattle.effects.specs.Run.{Step}
 use Rattle.effects.specs.Work.{going, do_steps}
 use Rattle.effects.proofs.Members.{begun, risen}
-use Rattle.flat.specs.View.{flat_view}
-use Rattle.flat_rules.proofs.Readable.{flat_readable}
+use Rattle.flat.specs.Shown.{shown}
 use Rattle.marks.specs.Bits.{marked}
 use Rattle.flat_microstep.specs.Stretch.{has?}
-use Rattle.flat_microstep.proofs.Inside.{next_fits}
 use Rattle.flat_microstep.proofs.Firing.{fires_with, no_step, its_step, firing_before}
 use Rattle.flat_microstep.proofs.fire_all.Goals as goal
 
 pub loop-k-init : goal.loop-k-init
 loop-k-init c =
     let s = c.args in
-    let stretch = c.requires.2 in
-    let f = flat_view s.t.now in
+    let stretch = c.requires.1 in
+    let f = shown s.t.table in
     let known = marked s.marks.now in (
       stretch.order,
       refl,
@@ -29,25 +27,12 @@ loop-k-init c =
       begun s.pairs (fires_with f s.e known) (has? f s.e) (no_step f s.e known) _ _ _ stretch.first,
     )
 
-pub fire_one-m-requires : goal.fire_one-m-requires
-fire_one-m-requires c =
-    let pre = c.requires in
-    (pre.0, omega (arith, pre.2.inside, c.loop-k-test.true), pre.1)
-
-pub seek-k-requires : goal.seek-k-requires
-seek-k-requires c =
-    let pre = c.requires in
-    (flat_readable pre.0, omega (arith, c.loop-k-test.true), pre.2.inside)
-
-pub loop-k-smaller : goal.loop-k-smaller
-loop-k-smaller c = omega (arith, c.seek-k.ensures.from, c.seek-k.ensures.up_to, c.loop-k-test.true)
-
 pub loop-k-preserved : goal.loop-k-preserved
 loop-k-preserved c =
     let l = c.loop-k in
     let s = c.args in
     let e = c.seek-k.ensures in
-    let f = flat_view s.t.now in
+    let f = shown s.t.table in
     let known = marked s.marks.now in
     let its = its_step f s.e known l.k (l.invariant.5 c.loop-k-test.true) in (
       e.up_to,
@@ -64,26 +49,11 @@ pub returns : goal.returns
 returns c =
     let s = c.args in
     let l = c.loop-k in
-    let stretch = c.requires.2 in
-    let f = flat_view s.t.now in
+    let stretch = c.requires.1 in
+    let f = shown s.t.table in
     let known = marked s.marks.now in
     let g = going s.n s.next.now s.vars.now s.outs.now s.queue.now in
     let end : l.k ≡ s.until = omega (arith, l.invariant.0, c.loop-k-test.false) in
     l.invariant.6
     ∙ ap (λ (xs : List Step). do_steps s.pairs xs g)
     (ap (join_up (fires_with f s.e known)) end ∙ sym (firing_before f s.e known s.until stretch.inside stretch.after))
-
-pub overflow_add-k : goal.overflow_add-k
-overflow_add-k c = next_fits _ _ c.loop-k-test.true c.ranges.until
-
-pub shape_of-next : goal.shape_of-next
-shape_of-next c = c.loop-k.invariant.1
-
-pub shape_of-vars : goal.shape_of-vars
-shape_of-vars c = c.loop-k.invariant.2
-
-pub shape_of-outs : goal.shape_of-outs
-shape_of-outs c = c.loop-k.invariant.3
-
-pub shape_of-queue : goal.shape_of-queue
-shape_of-queue c = c.loop-k.invariant.4

@@ -8,17 +8,14 @@ use Rattle.flat_microstep.specs.Stretch.{has?}
 use Rattle.flat_microstep.proofs.seek.Given as goal
 
 -- of both loops: no rule from k on and before j has trigger e, and the words of rule j begin at `at`
-abbrev pub Sought : List ℕ → ℕ → ℕ → ℕ → ℕ → ℕ → Type 0
+abbrev Sought : List ℕ → ℕ → ℕ → ℕ → ℕ → ℕ → Type 0
 Sought t e k n j at = (k ≤ j) × (j ≤ n) × (at ≡ rule_at t j) × None (has? (flat_view t) e) k j
 
 abbrev pub invariant-loop-j : goal.invariant-loop-j
-invariant-loop-j l = Sought l.t l.e l.k l.n l.j l.at
+invariant-loop-j l = Sought l.t.words.now l.e l.k l.n l.j l.at
 
 abbrev pub decreases-loop-j : goal.decreases-loop-j
 decreases-loop-j l = l.n - l.j
 
-abbrev pub invariant-loop-j-2 : goal.invariant-loop-j-2
-invariant-loop-j-2 l = Sought l.t l.e l.k l.n l.j l.at
-
-abbrev pub decreases-loop-j-2 : goal.decreases-loop-j-2
-decreases-loop-j-2 l = l.n - l.j
+abbrev pub invariant-loop-i : goal.invariant-loop-i
+invariant-loop-i l = Sought l.t.words.now l.e l.k l.n l.i l.at

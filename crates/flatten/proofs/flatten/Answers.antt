@@ -1,13 +1,19 @@
 -- `flatten::flatten` meets its contract: it goes by the check's answer. Assumes nothing.
+use Rattle.effects.proofs.Calls.{handed_on}
+use Rattle.chart_rules.proofs.Readable.{chart_readable}
 use Rattle.flatten.proofs.Answers.{accepted, chart_refused}
 use Rattle.flatten.proofs.flatten.Goals as goal
 
-pub flatten_accepted-requires : goal.flatten_accepted-requires
-flatten_accepted-requires c =
-    let t = c.args.t.now in
-    accepted t c.check-verdict.result c.check-verdict.ensures c.in-Done.is
+pub invariant_of-table : goal.invariant_of-table
+invariant_of-table c = record {
+  readable = chart_readable (accepted c.args.t.now c.check.result c.check.ensures c.in_ok-check.was);
+}
 
-pub returns-in-Refused : goal.returns-in-Refused
-returns-in-Refused c =
+pub invariant_of-flatten_accepted : goal.invariant_of-flatten_accepted
+invariant_of-flatten_accepted c = record { rules = accepted c.args.t.now c.check.result c.check.ensures c.in_ok-check.was }
+
+pub returns-in_err-check : goal.returns-in_err-check
+returns-in_err-check c =
     let s = c.args in
-    chart_refused s.t.now c.check-verdict.result c.check-verdict.ensures s.room.now c.in-Refused.refusal c.in-Refused.is
+    rw (handed_on c.from_residual.result c.from_residual.ensures.1)
+    (chart_refused s.t.now c.check.result c.check.ensures s.room.now c.in_err-check.field-0.0 c.in_err-check.was)

@@ -7,9 +7,9 @@ use Rattle.flatten.proofs.flatten_accepted.Goals as goal
 
 pub returns-then-room-room_needed : goal.returns-then-room-room_needed
 returns-then-room-room_needed c =
-    room_refused c.args.t.now c.args.room.now c.requires (omega (arith, c.room_needed.ensures))
+    room_refused c.args.t.table.words.now c.args.room.now c.args.t.rules (omega (arith, c.room_needed.ensures))
 
 pub returns : goal.returns
 returns c =
     let words = c.lay_table.ensures in
-    wrote c.requires (omega (arith, c.room_needed.ensures)) words.long words.room
+    wrote c.args.t.rules (omega (arith, c.room_needed.ensures)) words.long words.room

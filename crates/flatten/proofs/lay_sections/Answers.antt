@@ -6,39 +6,33 @@ use Rattle.flatten.specs.Numbers.{sections}
 use Rattle.flatten.proofs.Written.{spans_laid, literals_laid, spans_end, literals_end, items_most}
 use Rattle.flatten.proofs.lay_sections.Goals as goal
 
-pub lay_guards-spans-requires : goal.lay_guards-spans-requires
-lay_guards-spans-requires c =
-    let p = c.requires in
-    let n = p.1 in
-    (p.0, n.asked_are, n.ands_are, n.actives_are, n.takens_are, n.first_is, omega arith, omega arith)
-
 pub lay_guards-literals-requires : goal.lay_guards-literals-requires
 lay_guards-literals-requires c =
     let p = c.requires in
-    let n = p.1 in
-    let end = spans_end p.0 p.2 c.lay_guards-spans.ensures.pen in
-    (p.0, n.asked_are, n.ands_are, n.actives_are, n.takens_are, n.first_is, omega arith, omega arith)
+    let n = p.0 in
+    let end = spans_end c.args.t.rules p.1 c.lay_guards-spans.ensures.pen in
+    (n.asked_are, n.ands_are, n.actives_are, n.takens_are, n.first_is, omega arith, omega arith)
 
 pub lay_items-rules-requires : goal.lay_items-rules-requires
 lay_items-rules-requires c =
     let p = c.requires in
-    let end = spans_end p.0 p.2 c.lay_guards-spans.ensures.pen in
-    let last = literals_end p.0 end c.lay_guards-literals.ensures.pen in
+    let end = spans_end c.args.t.rules p.1 c.lay_guards-spans.ensures.pen in
+    let last = literals_end c.args.t.rules end c.lay_guards-literals.ensures.pen in
     omega arith
 
 pub lay_rules-requires : goal.lay_rules-requires
 lay_rules-requires c =
     let p = c.requires in
-    let n = p.1 in
-    let end = spans_end p.0 p.2 c.lay_guards-spans.ensures.pen in
-    let last = literals_end p.0 end c.lay_guards-literals.ensures.pen in
-    let few = items_most p.0 in
-    (p.0, n.ands_are, n.actives_are, n.takens_are, n.first_is, omega (arith, c.lay_items-rules.ensures.next))
+    let n = p.0 in
+    let end = spans_end c.args.t.rules p.1 c.lay_guards-spans.ensures.pen in
+    let last = literals_end c.args.t.rules end c.lay_guards-literals.ensures.pen in
+    let few = items_most c.args.t.rules in
+    (n.ands_are, n.actives_are, n.takens_are, n.first_is, omega (arith, c.lay_items-rules.ensures.next))
 
 pub returns : goal.returns
 unfolding sections
 returns c =
-    let v = view c.args.t.now in
+    let v = view c.args.t.table.words.now in
     let a = c.lay_guards-spans.ensures in
     let b = c.lay_guards-literals.ensures in
     let d = c.lay_items-rules.ensures in

@@ -1,5 +1,4 @@
 -- `flatten::sizes_of` meets its contract: a guard has two words, a rule six. Assumes nothing.
-use borrow.Author.Rules.{rules}
 use mathlib.Core.Path.{◌∙◌, sym}
 use native.Mathlib.Omega.{arith}
 use Rattle.chart.specs.View.{view}
@@ -9,49 +8,35 @@ use Rattle.flatten_meaning.proofs.Bounds.{or_few, and_few}
 use Rattle.flatten.proofs.Written.{guards_counted, rules_counted, guards_most, literals_most, rules_most}
 use Rattle.flatten.proofs.sizes_of.Goals as goal
 
-pub lay_guards-guards-requires : goal.lay_guards-guards-requires
-lay_guards-guards-requires c =
-    let p = c.requires in
-    let n = p.1 in
-    (p.0, n.asked_are, n.ands_are, n.actives_are, n.takens_are, n.first_is, omega arith, omega arith)
-
-pub lay_rules-rules-requires : goal.lay_rules-rules-requires
-lay_rules-rules-requires c =
-    let p = c.requires in
-    let n = p.1 in
-    (p.0, n.ands_are, n.actives_are, n.takens_are, n.first_is, omega arith)
-
 pub overflow_cast-result : goal.overflow_cast-result
-overflow_cast-result c = let p = c.requires in
-    record { fits = omega (arith, or_few (tree p.0)) }
+overflow_cast-result c = record { fits = omega (arith, or_few (tree c.args.t.rules)) }
 
 pub overflow_cast-result-2 : goal.overflow_cast-result-2
-overflow_cast-result-2 c = let p = c.requires in
-    record { fits = omega (arith, and_few (tree p.0)) }
+overflow_cast-result-2 c = record { fits = omega (arith, and_few (tree c.args.t.rules)) }
 
 pub overflow_cast-result-3 : goal.overflow_cast-result-3
 overflow_cast-result-3 c =
-    let counted = guards_counted (view c.args.t.now) c.lay_guards-guards.ensures.pen in
-    record { fits = omega (arith, counted.0, guards_most c.requires.0) }
+    let counted = guards_counted (view c.args.t.table.words.now) c.lay_guards-guards.ensures.pen in
+    record { fits = omega (arith, counted.0, guards_most c.args.t.rules) }
 
 pub overflow_cast-result-4 : goal.overflow_cast-result-4
 overflow_cast-result-4 c =
-    let counted = guards_counted (view c.args.t.now) c.lay_guards-guards.ensures.pen in
-    record { fits = omega (arith, counted.1, literals_most c.requires.0) }
+    let counted = guards_counted (view c.args.t.table.words.now) c.lay_guards-guards.ensures.pen in
+    record { fits = omega (arith, counted.1, literals_most c.args.t.rules) }
 
 pub overflow_cast-result-5 : goal.overflow_cast-result-5
 overflow_cast-result-5 c =
-    let counted = rules_counted (view c.args.t.now) c.lay_rules-rules.ensures.next in
-    record { fits = omega (arith, counted, rules_most c.requires.0) }
+    let counted = rules_counted (view c.args.t.table.words.now) c.lay_rules-rules.ensures.next in
+    record { fits = omega (arith, counted, rules_most c.args.t.rules) }
 
 pub returns : goal.returns
 returns c =
-    let v = view c.args.t.now in
+    let v = view c.args.t.table.words.now in
     let guards = guards_counted v c.lay_guards-guards.ensures.pen in
     let rules = rules_counted v c.lay_rules-rules.ensures.next in
     record {
-      machines_are = c.requires.2 ∙ sym (machines_are v);
-      states_are = c.requires.3 ∙ sym (states_are v);
+      machines_are = c.requires.1 ∙ sym (machines_are v);
+      states_are = c.requires.2 ∙ sym (states_are v);
       guards_are = omega (arith, guards.0);
       literals_are = guards.1;
       rules_are = omega (arith, rules);

@@ -1,82 +1,43 @@
 -- `flatten_guards::lay_entered` meets its contract: a state that history decides on has a guard. Assumes nothing.
+use Prim.Native.Nat.{◌<◌}
 use mathlib.Core.Path.{◌≡◌, sym, ◌∙◌}
 use mathlib.Core.Bool.{true, false}
 use native.Mathlib.Omega.{arith}
+use Rattle.std.proofs.iter.Serving.{serving}
 use Rattle.chart.specs.View.{view}
-use Rattle.flatten_meaning.specs.Flattened.{forks, entered_literals}
 use Rattle.chart_meaning.proofs.Tree.{tree}
+use Rattle.flatten_meaning.specs.Flattened.{forks, entered_literals}
 use Rattle.flatten_numbers.proofs.Above.{fork_and}
-use Rattle.flatten_guards.proofs.Penned.{penned_none, penned_span, penned_literals, within_step}
+use Rattle.flatten_guards.proofs.Penned.{penned_none}
 use Rattle.flatten_guards.proofs.lay_entered.Goals as goal
 
-pub returns-then-not-has : goal.returns-then-not-has
-returns-then-not-has c =
+pub returns-then-not-has-clause-guards : goal.returns-then-not-has-clause-guards
+returns-then-not-has-clause-guards c =
     let s = c.args in
-    let v = view s.t.now in
-    let has = c.has in
-    let told : forks v s.k s.j ≡ false = sym (c.requires.3 s.j c.requires.4) ∙ sym has.ensures ∙ c.if-not-has.true in
-    record { guards = rw told penned_none; few = (omega arith, omega arith) }
+    let told : forks (view s.t.table.words.now) s.k s.j ≡ false = sym (c.requires.2 s.j c.requires.3) ∙ sym c.has.ensures ∙ c.if-not-has.true in
+    rw told penned_none
 
-pub put_entered-end-requires : goal.put_entered-end-requires
-put_entered-end-requires c =
+pub lay_guard-requires-clause-may : goal.lay_guard-requires-clause-may
+lay_guard-requires-clause-may c =
     let s = c.args in
-    let v = view s.t.now in
-    let has = c.has in
-    let told : forks v s.k s.j ≡ true = sym (c.requires.3 s.j c.requires.4) ∙ sym has.ensures ∙ c.if-not-has.false in
-    let is = fork_and v (tree c.requires.0) s.k s.j c.requires.4 told in (
-      c.requires.0,
-      c.requires.1,
-      c.requires.4,
-      is,
-      c.requires.2,
-      c.requires.5,
-      c.requires.6,
-      c.requires.7,
-      omega arith,
-    )
+    let told = sym (c.requires.2 s.j c.requires.3) ∙ sym c.has.ensures ∙ c.if-not-has.false in
+    let is = fork_and (view s.t.table.words.now) (tree c.args.t.rules) s.k s.j c.requires.3 told in
+    λ some at h. let low : at < 500000 = omega (arith, h) in search serving
 
-pub returns-then-spans : goal.returns-then-spans
-returns-then-spans c =
+pub lay_guard-requires-clause-puts : goal.lay_guard-requires-clause-puts
+lay_guard-requires-clause-puts c =
     let s = c.args in
-    let v = view s.t.now in
-    let has = c.has in
-    let told : forks v s.k s.j ≡ true = sym (c.requires.3 s.j c.requires.4) ∙ sym has.ensures ∙ c.if-not-has.false in
-    let counted = c.put_entered-end.ensures in
-    let size = c.put_size.ensures in
-    record {
-      guards = rw (told, c.if-spans.true)
-          (penned_span (entered_literals v s.k s.j) counted.told size.pen size.room);
-      few = within_step s.pen 6 2 size.pen (omega arith) (omega (arith, counted.few));
-    }
+    (entered_literals (view s.t.table.words.now) s.k s.j, 2, omega arith, λ room after at end h put. search serving)
 
-pub put_entered-requires : goal.put_entered-requires
-put_entered-requires c =
+pub returns-clause-guards : goal.returns-clause-guards
+returns-clause-guards c =
     let s = c.args in
-    let v = view s.t.now in
-    let has = c.has in
-    let told : forks v s.k s.j ≡ true = sym (c.requires.3 s.j c.requires.4) ∙ sym has.ensures ∙ c.if-not-has.false in
-    let is = fork_and v (tree c.requires.0) s.k s.j c.requires.4 told in (
-      c.requires.0,
-      c.requires.1,
-      c.requires.4,
-      is,
-      c.requires.2,
-      c.requires.5,
-      c.requires.6,
-      c.requires.7,
-      omega arith,
-    )
+    let v = view s.t.table.words.now in
+    let told : forks v s.k s.j ≡ true = sym (c.requires.2 s.j c.requires.3) ∙ sym c.has.ensures ∙ c.if-not-has.false in
+    rw told (c.lay_guard.ensures.guards (entered_literals v s.k s.j) 2 (λ room after at end h put. search serving))
 
-pub returns : goal.returns
-returns c =
+pub returns-clause-few : goal.returns-clause-few
+returns-clause-few c =
     let s = c.args in
-    let v = view s.t.now in
-    let has = c.has in
-    let told : forks v s.k s.j ≡ true = sym (c.requires.3 s.j c.requires.4) ∙ sym has.ensures ∙ c.if-not-has.false in
-    let laid = c.put_entered.ensures in
-    let end = c.behind.ensures in
-    record {
-      guards = rw (told, c.if-spans.false)
-          (penned_literals (entered_literals v s.k s.j) laid.told end);
-      few = within_step s.pen 6 2 end laid.few (omega (arith, laid.few));
-    }
+    c.lay_guard.ensures.few (entered_literals (view s.t.table.words.now) s.k s.j) 2 (omega arith)
+    (λ room after at end h put. search serving)

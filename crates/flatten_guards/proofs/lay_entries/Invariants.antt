@@ -1,5 +1,5 @@
--- What the loops of `flatten_guards::lay_entries` keep, and what grows smaller.
-use Prim.Native.Nat.{◌*◌, ◌-◌, ◌≤◌}
+-- What the loop of `flatten_guards::lay_entries` keeps.
+use Prim.Native.Nat.{◌*◌}
 use mathlib.Core.Path.{◌≡◌}
 use lib.ListN.{length}
 use Rattle.words.specs.Loops.{join_up}
@@ -10,8 +10,5 @@ use Rattle.flatten_guards.proofs.lay_entries.Given as goal
 
 abbrev pub invariant-loop-k : goal.invariant-loop-k
 invariant-loop-k l =
-    (l.k ≤ l.n) × (l.number ≡ entered_guard (view l.t) l.k 0) × Within (288 * l.k) (96 * l.k) l.initial.next l.next × (length l.refers ≡ 48)
-    × Penned l.spans (join_up (entered_guards_of (view l.t)) l.k) l.initial.next l.initial.room l.next l.room
-
-abbrev pub decreases-loop-k : goal.decreases-loop-k
-decreases-loop-k l = l.n - l.k
+    (l.number ≡ entered_guard (view l.t.table.words.now) l.k 0) × Within (288 * l.k) (96 * l.k) l.initial.next l.next × (length l.refers ≡ 48)
+    × Penned l.spans (join_up (entered_guards_of (view l.t.table.words.now)) l.k) l.initial.next l.initial.room l.next l.room

@@ -1,48 +1,34 @@
 -- `flatten_guards::lay_taken` meets its contract: a transition that is not bare has a guard. Assumes nothing.
+use Prim.Native.Nat.{◌<◌}
 use mathlib.Core.Path.{◌≡◌, sym, ◌∙◌}
 use mathlib.Core.Bool.{true, false}
 use native.Mathlib.Omega.{arith}
-use lib.Dec.{lit<}
+use Rattle.std.proofs.iter.Serving.{serving}
 use Rattle.chart.specs.View.{view}
 use Rattle.flatten_meaning.specs.Flattened.{bare, taken_literals}
-use Rattle.flatten_guards.proofs.Penned.{penned_none, penned_span, penned_literals, within_step}
+use Rattle.flatten_guards.proofs.Penned.{penned_none}
 use Rattle.flatten_guards.proofs.lay_taken.Goals as goal
 
-pub returns-then-is_bare : goal.returns-then-is_bare
-returns-then-is_bare c =
-    let s = c.args in
-    let v = view s.t.now in
-    let told : bare v s.k ≡ true = sym c.is_bare.ensures ∙ c.if-is_bare.true in
-    record { guards = rw told penned_none; few = (omega arith, omega arith) }
+pub returns-then-is_bare-clause-guards : goal.returns-then-is_bare-clause-guards
+returns-then-is_bare-clause-guards c =
+    let told : bare (view c.args.t.table.words.now) c.args.k ≡ true = sym c.is_bare.ensures ∙ c.if-is_bare.true in
+    rw told penned_none
 
-pub returns-then-spans : goal.returns-then-spans
-returns-then-spans c =
+pub lay_guard-requires-clause-may : goal.lay_guard-requires-clause-may
+lay_guard-requires-clause-may c = λ some at h. let low : at < 500000 = omega (arith, h) in search serving
+
+pub lay_guard-requires-clause-puts : goal.lay_guard-requires-clause-puts
+lay_guard-requires-clause-puts c =
+    (taken_literals (view c.args.t.table.words.now) c.args.k, 57, omega arith, λ room after at end h put. search serving)
+
+pub returns-clause-guards : goal.returns-clause-guards
+returns-clause-guards c =
     let s = c.args in
-    let v = view s.t.now in
+    let v = view s.t.table.words.now in
     let told : bare v s.k ≡ false = sym c.is_bare.ensures ∙ c.if-is_bare.false in
-    let counted = c.put_taken-end.ensures in
-    let size = c.put_size.ensures in
-    record {
-      guards = rw (told, c.if-spans.true)
-          (penned_span (taken_literals v s.k) counted.told size.pen size.room);
-      few = within_step s.pen 171 57 size.pen (omega arith) (omega (arith, counted.few));
-    }
+    rw told (c.lay_guard.ensures.guards (taken_literals v s.k) 57 (λ room after at end h put. search serving))
 
-pub returns : goal.returns
-returns c =
+pub returns-clause-few : goal.returns-clause-few
+returns-clause-few c =
     let s = c.args in
-    let v = view s.t.now in
-    let told : bare v s.k ≡ false = sym c.is_bare.ensures ∙ c.if-is_bare.false in
-    let laid = c.put_taken.ensures in
-    let end = c.behind.ensures in
-    record {
-      guards = rw (told, c.if-spans.false)
-          (penned_literals (taken_literals v s.k) laid.told end);
-      few = within_step s.pen 171 57 end laid.few (omega (arith, laid.few));
-    }
-
-pub put_taken-end-requires : goal.put_taken-end-requires
-put_taken-end-requires c = (c.requires.0, c.requires.1, c.requires.2, c.requires.3, lit< tt)
-
-pub put_taken-requires : goal.put_taken-requires
-put_taken-requires c = (c.requires.0, c.requires.1, c.requires.2, c.requires.3, omega arith)
+    c.lay_guard.ensures.few (taken_literals (view s.t.table.words.now) s.k) 57 (omega arith) (λ room after at end h put. search serving)

@@ -1,10 +1,8 @@
 -- `flatten_head::lay_counts` meets its contract: four times three words are laid. Assumes nothing.
 use Prim.Native.Nat.{ℕ}
-use mathlib.Core.Path.{ap, ◌∙◌}
+use mathlib.Core.Path.{◌∙◌}
 use mathlib.Core.List.{List, [], ◌∷◌, ◌++◌}
-use lib.Dec.{lit<}
-use lib.ListN.{length}
-use Rattle.flatten_laying.proofs.Lay.{lay_both, lay_length}
+use Rattle.flatten_laying.proofs.Lay.{lay_both}
 use Rattle.flatten_head.proofs.Sections.{same_counts}
 use Rattle.flatten_head.proofs.lay_counts.Goals as goal
 
@@ -28,18 +26,3 @@ returns c =
     twelve
     ∙ same_counts room s.total z.machines z.states z.guards z.literals z.rules
     events.ensures signals.ensures outputs.ensures variables.ensures items.ensures
-
-pub shape_of-room : goal.shape_of-room
-shape_of-room c = ap length (returns c) ∙ lay_length _ _ _
-
-pub put_triple-requires : goal.put_triple-requires
-put_triple-requires c = lit< tt
-
-pub put_triple-requires-2 : goal.put_triple-requires-2
-put_triple-requires-2 c = lit< tt
-
-pub put_triple-requires-3 : goal.put_triple-requires-3
-put_triple-requires-3 c = lit< tt
-
-pub put_triple-requires-4 : goal.put_triple-requires-4
-put_triple-requires-4 c = lit< tt

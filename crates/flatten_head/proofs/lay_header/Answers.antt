@@ -7,5 +7,5 @@ pub returns : goal.returns
 returns c =
     let s = c.args in
     let p = c.places_of-p in
-    header_laid (view s.t.now) s.s p.result s.room.now c.requires.1 p.ensures
+    header_laid (view s.t.table.words.now) s.s p.result s.room.now c.requires p.ensures
     c.lay_counts.ensures c.lay_places.ensures

@@ -9,6 +9,6 @@ use Rattle.flatten_head.proofs.lay_initials.Goals as goal
 
 pub returns : goal.returns
 returns c =
-    let t = c.args.t.now in
-    let words = initial_word t (tree c.requires.0) c.args.ands.now c.requires.1 in
+    let t = c.args.t.table.words.now in
+    let words = initial_word t (tree c.args.t.rules) c.args.ands.now c.requires.0 in
     laid_as (join_up_cong (view t).states words ∙ sym (initials_are (view t))) c.lay_named.ensures

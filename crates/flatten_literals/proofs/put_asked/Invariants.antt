@@ -1,5 +1,5 @@
--- What the loops of `flatten_literals::put_asked` keep, and what grows smaller.
-use Prim.Native.Nat.{ℕ, ◌+◌, ◌*◌, ◌-◌, ◌≤◌}
+-- What the loop of `flatten_literals::put_asked` keeps.
+use Prim.Native.Nat.{ℕ, ◌+◌, ◌*◌, ◌≤◌}
 use mathlib.Core.List.{List, map}
 use Rattle.words.specs.Loops.{many}
 use Rattle.flat.specs.declared.FlatLiteral.{FlatLiteral}
@@ -18,7 +18,4 @@ flats c first i = map (flat_literal c) (many (literal c) first i)
 
 abbrev pub invariant-loop-i : goal.invariant-loop-i
 invariant-loop-i l =
-    (l.i ≤ l.count) × (l.next ≤ l.at + 3 * l.i) × Told l.at (flats (view l.t) l.first l.i) l.initial.room l.next l.room
-
-abbrev pub decreases-loop-i : goal.decreases-loop-i
-decreases-loop-i l = l.count - l.i
+    (l.next ≤ l.at + 3 * l.i) × Told l.at (flats (view l.t.table.words.now) l.first l.i) l.initial.room l.next l.room

@@ -1,5 +1,5 @@
--- What the loops of `flatten_literals::put_blockers` keep, and what grows smaller.
-use Prim.Native.Nat.{ℕ, ◌+◌, ◌*◌, ◌-◌, ◌≤◌}
+-- What the loop of `flatten_literals::put_blockers` keeps.
+use Prim.Native.Nat.{ℕ, ◌+◌, ◌*◌, ◌≤◌}
 use mathlib.Core.List.{List}
 use Rattle.words.specs.Loops.{join_up, when}
 use Rattle.flat.specs.declared.FlatLiteral.{FlatLiteral}
@@ -14,7 +14,4 @@ blocker c k s = when (blocks c s k) (Fails (taken_guard c s))
 
 abbrev pub invariant-loop-s : goal.invariant-loop-s
 invariant-loop-s l =
-    (l.s ≤ l.k) × (l.next ≤ l.at + 3 * l.s) × Told l.at (join_up (blocker (view l.t) l.k) l.s) l.initial.room l.next l.room
-
-abbrev pub decreases-loop-s : goal.decreases-loop-s
-decreases-loop-s l = l.k - l.s
+    (l.next ≤ l.at + 3 * l.s) × Told l.at (join_up (blocker (view l.t.table.words.now) l.k) l.s) l.initial.room l.next l.room

@@ -11,33 +11,33 @@ use Rattle.flatten_literals.proofs.put_entered.Goals as goal
 
 pub above_number-up-requires : goal.above_number-up-requires
 above_number-up-requires c =
-    let up = up_lt (tree c.requires.0) c.args.j c.requires.2 c.requires.3 in
-    (c.requires.0, c.requires.2, omega (arith, up, c.requires.2), c.number-taken.ensures.small)
+    let up = up_lt (tree c.args.t.rules) c.args.j c.requires.1 c.requires.2 in
+    (c.requires.1, omega (arith, up, c.requires.1), c.number-taken.ensures.small)
 
-pub returns-then-up-taken : goal.returns-then-up-taken
-returns-then-up-taken c =
+pub returns-then-up-taken-clause-told : goal.returns-then-up-taken-clause-told
+returns-then-up-taken-clause-told c =
     let s = c.args in
-    let v = view s.t.now in
-    let a = c.word.ensures ∙ c.requires.5 s.j c.requires.2 in
-    let taken = c.number-taken.ensures.is ∙ c.requires.6 s.k c.requires.1 in
+    let v = view s.t.table.words.now in
+    let a = c.word.ensures ∙ c.requires.4 s.j c.requires.1 in
+    let taken = c.number-taken.ensures.is ∙ c.requires.5 s.k c.requires.0 in
     let up =
-    above_read (tree c.requires.0) s.k s.j s.refers.now c.requires.2 c.requires.3 c.requires.7
-    c.requires.4 taken c.above_number-up.ensures.is in
+    above_read (tree c.args.t.rules) s.k s.j s.refers.now c.requires.1 c.requires.2 c.requires.6
+    c.requires.3 taken c.above_number-up.ensures.is in
     let sure = c.if-up-taken.true ∙ taken in
-    record { told = entered_sure v s.k s.j a up sure c.put_current.ensures.told; few = omega arith }
+    entered_sure v s.k s.j a up sure c.put_current.ensures.told
 
-pub returns : goal.returns
-returns c =
+pub returns-clause-told : goal.returns-clause-told
+returns-clause-told c =
     let s = c.args in
-    let v = view s.t.now in
-    let a = c.word-2.ensures ∙ c.requires.5 s.j c.requires.2 in
-    let taken = c.number-taken.ensures.is ∙ c.requires.6 s.k c.requires.1 in
+    let v = view s.t.table.words.now in
+    let a = c.word-2.ensures ∙ c.requires.4 s.j c.requires.1 in
+    let taken = c.number-taken.ensures.is ∙ c.requires.5 s.k c.requires.0 in
     let up =
-    above_read (tree c.requires.0) s.k s.j s.refers.now c.requires.2 c.requires.3 c.requires.7
-    c.requires.4 taken
+    above_read (tree c.args.t.rules) s.k s.j s.refers.now c.requires.1 c.requires.2 c.requires.6
+    c.requires.3 taken
     c.above_number-up.ensures.is in
     let read = c.above_number-up in
     let below : read.result ≢ taken_guard v s.k = λ e. c.if-up-taken.false (e ∙ sym taken) in
     let holds = c.put_holds-next.ensures in
     let current = c.put_current-2.ensures in
-    record { told = entered_below v s.k s.j a up below holds.told current.told; few = omega arith }
+    entered_below v s.k s.j a up below holds.told current.told

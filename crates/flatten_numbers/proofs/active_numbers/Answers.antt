@@ -1,17 +1,12 @@
 -- `flatten_numbers::active_numbers` meets its contract: a guard is the number of a state that is asked for. Assumes nothing.
-use mathlib.Core.Path.{◌∙◌}
-use native.Mathlib.Nat.{le_refl}
-use native.Mathlib.Omega.{arith}
+use Rattle.std.proofs.Common.{rules}
 use Rattle.chart.specs.View.{view}
-use Rattle.flatten_meaning.specs.Flattened.{active_guards}
-use Rattle.flatten_numbers.proofs.Few.{active_same}
+use Rattle.flatten_meaning.specs.Flattened.{asked, active_guard, active_guards}
 use Rattle.flatten_numbers.proofs.active_numbers.Goals as goal
 
 pub returns : goal.returns
-unfolding active_guards
+unfolding active_guard active_guards
 returns c =
-    let s = c.args in
-    let v = view s.t.now in
-    let same = active_same v s.asked c.requires.1 in
-    let made = c.number_states.ensures in
-    record { is = made.is ∙ same v.states (le_refl v.states); few = made.few; numbers = λ j h. made.numbers j h ∙ same j (omega arith) }
+    let numbered = c.number_those.ensures in
+    let actives = numbered.numbers (asked (view c.args.t.table.words.now)) (λ j b h told. let is = c.requires.0 j h in search rules) in
+    record { is = actives.0; few = numbered.few; numbers = actives.1 }

@@ -2,7 +2,6 @@
 use mathlib.Core.Path.{◌≡◌, sym, ◌∙◌}
 use mathlib.Core.Bool.{◌&&◌}
 use Rattle.chart.specs.View.{view, is_and}
-use Rattle.chart_rules.proofs.Readable.{chart_needs}
 use Rattle.chart_meaning.specs.Scope.{scope, scoped, beneath}
 use Rattle.flatten_meaning.specs.Flattened.{some?, meets, quits}
 use Rattle.flatten_pairs.proofs.Pairs.{quits_nothing, quits_outside, quits_together}
@@ -12,7 +11,7 @@ pub returns-then-not-has_exits : goal.returns-then-not-has_exits
 unfolding quits
 returns-then-not-has_exits c =
     let s = c.args in
-    let v = view s.t.now in
+    let v = view s.t.table.words.now in
     let runs = c.has_exits in
     sym (quits_nothing (is_and v s.j) (scoped v s.k && beneath v (scope v s.k) s.j)
     (meets v (v.source s.k) s.j) (some? (v.exits s.j))
@@ -22,37 +21,23 @@ pub returns-then-not-is_inside : goal.returns-then-not-is_inside
 unfolding quits
 returns-then-not-is_inside c =
     let s = c.args in
-    let v = view s.t.now in
+    let v = view s.t.table.words.now in
     let inside = c.is_inside in
-    let told = rw c.requires.3 at inside.ensures in
+    let told = rw c.requires.2 at inside.ensures in
     sym (quits_outside (is_and v s.j) (scoped v s.k && beneath v (scope v s.k) s.j)
     (meets v (v.source s.k) s.j) (some? (v.exits s.j)) (sym told ∙ c.if-not-is_inside.true))
-
-pub can_meet-requires : goal.can_meet-requires
-can_meet-requires c =
-    let source = (c.requires.0.sources c.args.k c.requires.1).source_in in
-    (c.requires.0, rw c.transition_word.ensures.is source, c.requires.2)
 
 pub returns : goal.returns
 unfolding quits
 returns c =
     let s = c.args in
-    let v = view s.t.now in
+    let v = view s.t.table.words.now in
     let runs = c.has_exits in
     let inside = c.is_inside in
-    let told = rw c.requires.3 at inside.ensures in
+    let told = rw c.requires.2 at inside.ensures in
     let meet : c.can_meet.result ≡ meets v (v.source s.k) s.j = rw (← c.transition_word.ensures.is) c.can_meet.ensures in
     meet
     ∙ sym (quits_together (is_and v s.j) (scoped v s.k && beneath v (scope v s.k) s.j)
     (meets v (v.source s.k) s.j) (some? (v.exits s.j))
     (sym runs.ensures ∙ c.if-not-has_exits.false)
     (sym told ∙ c.if-not-is_inside.false))
-
-pub has_exits-requires : goal.has_exits-requires
-has_exits-requires c = search chart_needs
-
-pub is_inside-requires : goal.is_inside-requires
-is_inside-requires c = search chart_needs
-
-pub transition_word-requires : goal.transition_word-requires
-transition_word-requires c = search chart_needs

@@ -4,7 +4,6 @@ use mathlib.Core.Bool.{true, false}
 use lib.Dec.{eqb}
 use Rattle.words.proofs.Tests.{eqb_yes, eqb_no}
 use Rattle.chart.specs.View.{view}
-use Rattle.chart_rules.proofs.Readable.{chart_needs}
 use Rattle.flatten_meaning.specs.Flattened.{meets, blocks}
 use Rattle.flatten_pairs.proofs.does_block.Goals as goal
 
@@ -12,7 +11,7 @@ pub returns-then-transition_word : goal.returns-then-transition_word
 unfolding blocks
 returns-then-transition_word c =
     let s = c.args in
-    let v = view s.t.now in
+    let v = view s.t.table.words.now in
     let first = c.transition_word.ensures.is in
     let second = c.transition_word-2.ensures.is in
     let other : eqb (v.trigger s.s) (v.trigger s.k) ≡ false = rw (← first, ← second) (eqb_no c.if-transition_word.true) in
@@ -22,25 +21,18 @@ pub returns-then-not-are_related : goal.returns-then-not-are_related
 unfolding blocks
 returns-then-not-are_related c =
     let s = c.args in
-    let v = view s.t.now in
+    let v = view s.t.table.words.now in
     let first = c.transition_word.ensures.is in
     let second = c.transition_word-2.ensures.is in
     let same : eqb (v.trigger s.s) (v.trigger s.k) ≡ true = rw (← first, ← second) (eqb_yes c.if-transition_word.false) in
     let near = c.are_related in
     rw (same, sym near.ensures ∙ c.if-not-are_related.true)
 
-pub can_meet-requires : goal.can_meet-requires
-can_meet-requires c =
-    let sources = c.requires.0.sources in
-    let first = (sources c.args.s c.requires.1).source_in in
-    let second = (sources c.args.k c.requires.2).source_in in
-    (c.requires.0, rw c.transition_word-3.ensures.is first, rw c.transition_word-4.ensures.is second)
-
 pub returns : goal.returns
 unfolding blocks
 returns c =
     let s = c.args in
-    let v = view s.t.now in
+    let v = view s.t.table.words.now in
     let first = c.transition_word.ensures.is in
     let second = c.transition_word-2.ensures.is in
     let same : eqb (v.trigger s.s) (v.trigger s.k) ≡ true = rw (← first, ← second) (eqb_yes c.if-transition_word.false) in
@@ -48,15 +40,3 @@ returns c =
     let sources = ap₂ (meets v) c.transition_word-3.ensures.is c.transition_word-4.ensures.is in
     let meet = c.can_meet.ensures ∙ sources in
     rw (same, sym near.ensures ∙ c.if-not-are_related.false) meet
-
-pub transition_word-requires : goal.transition_word-requires
-transition_word-requires c = search chart_needs
-
-pub transition_word-requires-2 : goal.transition_word-requires-2
-transition_word-requires-2 c = search chart_needs
-
-pub transition_word-requires-3 : goal.transition_word-requires-3
-transition_word-requires-3 c = search chart_needs
-
-pub transition_word-requires-4 : goal.transition_word-requires-4
-transition_word-requires-4 c = search chart_needs

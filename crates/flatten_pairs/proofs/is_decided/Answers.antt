@@ -2,23 +2,16 @@
 use mathlib.Core.Path.{ap, ap₂, ◌∙◌}
 use mathlib.Core.Bool.{Bool, not, ◌&&◌}
 use Rattle.chart.specs.View.{view}
-use Rattle.chart_rules.proofs.Readable.{chart_readable, chart_needs}
 use Rattle.chart_meaning.specs.Entered.{keeps_word, enters_latest, aimed}
 use Rattle.flatten_meaning.specs.Flattened.{decides}
 use Rattle.flatten_pairs.proofs.is_decided.Goals as goal
-
-pub keeps_word-requires : goal.keeps_word-requires
-keeps_word-requires c = (chart_readable c.requires.0, rw c.state_word-o.ensures.is c.requires.3)
 
 pub returns : goal.returns
 unfolding decides enters_latest
 returns c =
     let s = c.args in
-    let v = view s.t.now in
+    let v = view s.t.table.words.now in
     let o = c.state_word-o.ensures.is in
     let aims = c.is_aimed.ensures ∙ ap (aimed v s.k) o in
     c.both.ensures
     ∙ ap₂ (λ (x y : Bool). not x && y) aims (c.keeps_word.ensures ∙ ap (keeps_word v) o)
-
-pub state_word-o-requires : goal.state_word-o-requires
-state_word-o-requires c = search chart_needs

@@ -1,35 +1,19 @@
--- `flatten_pairs::is_unblocked` meets its contract: none of the transitions passed blocks. Assumes nothing.
-use Prim.Native.Nat.{ℕ, ◌-◌}
-use mathlib.Core.Path.{◌≡◌, refl, sym, ap, ◌∙◌}
+-- `flatten_pairs::is_unblocked` meets its contract: the chain asks of each transition before k. Assumes nothing.
+use Prim.Native.Nat.{ℕ}
+use mathlib.Core.Path.{refl, ap, ◌∙◌}
 use mathlib.Core.Bool.{Bool, not}
 use native.Mathlib.Omega.{arith}
-use Rattle.words.specs.Loops.{any_below}
+use Rattle.std.proofs.Common.{rules}
+use Rattle.std.proofs.lemmas.Iterator.{YieldsList-from_range}
+use Rattle.std.proofs.lemmas.Iterator.Search.{any_from_yields_List}
 use Rattle.chart.specs.View.{view}
 use Rattle.flatten_meaning.specs.Flattened.{blocks}
-use Rattle.flatten_meaning.proofs.Laws.{any_below_in}
-use Rattle.flatten_pairs.proofs.Below.{none_next}
+use Rattle.flatten_pairs.proofs.Ranges.{range_below}
 use Rattle.flatten_pairs.proofs.is_unblocked.Goals as goal
-
-pub loop-s-init : goal.loop-s-init
-loop-s-init c = (omega arith, refl)
-
-pub returns-then-does_block : goal.returns-then-does_block
-returns-then-does_block c =
-    let a = c.args in
-    let p : ℕ → Bool = λ i. blocks (view a.t.now) i a.k in
-    let here = sym c.does_block.ensures ∙ c.if-does_block.true in
-    sym (ap not (any_below_in p a.k c.loop-s.s c.loop-s-test.true here))
-
-pub loop-s-preserved : goal.loop-s-preserved
-loop-s-preserved c =
-    let a = c.args in
-    let l = c.loop-s in
-    let p : ℕ → Bool = λ i. blocks (view a.t.now) i a.k in
-    (omega arith, none_next p l.s l.invariant.1 (sym c.does_block.ensures ∙ c.if-does_block.false))
 
 pub returns : goal.returns
 returns c =
-    let a = c.args in
-    let p : ℕ → Bool = λ i. blocks (view a.t.now) i a.k in
-    let e : c.loop-s.s ≡ a.k = omega arith in
-    sym (ap not (ap (any_below p) (sym e) ∙ c.loop-s.invariant.1))
+    let s = c.args in
+    let p : ℕ → Bool = λ i. blocks (view s.t.table.words.now) i s.k in
+    let range = YieldsList-from_range 0 s.k s.k refl (omega arith) in
+    ap not (any_from_yields_List p _ _ c.any.result c.any.ensures.ran range (λ x b q told. search rules) ∙ range_below p s.k)

@@ -1,5 +1,5 @@
--- What the loops of `flatten_sets::above_set` keep, and what grows smaller.
-use Prim.Native.Nat.{ℕ, ◌-◌, ◌<◌, ◌≤◌}
+-- What the loop of `flatten_sets::above_set` keeps.
+use Prim.Native.Nat.{ℕ, ◌<◌}
 use mathlib.Core.Path.{◌≡◌}
 use mathlib.Core.Bool.{Bool, false, ◌&&◌}
 use mathlib.Core.List.{List}
@@ -15,8 +15,4 @@ abbrev pub over : Chart → List Bool → ℕ → ℕ → Bool
 over c set i j = within c i j && get_or set j false
 
 abbrev pub invariant-loop-j : goal.invariant-loop-j
-invariant-loop-j l =
-    (l.j ≤ l.n) × ((i : ℕ) → i < (view l.t).states → get_or (cells l.r) i false ≡ any_below (over (view l.t) (cells l.set) i) l.j)
-
-abbrev pub decreases-loop-j : goal.decreases-loop-j
-decreases-loop-j l = l.n - l.j
+invariant-loop-j l = (i : ℕ) → i < (view l.t.table.words.now).states → get_or (cells l.r) i false ≡ any_below (over (view l.t.table.words.now) (cells l.set) i) l.j

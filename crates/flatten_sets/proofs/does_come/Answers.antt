@@ -5,7 +5,6 @@ use mathlib.Core.Path.{sym, ap, ◌∙◌}
 use native.Mathlib.Nat.{add_assoc}
 use lib.ListN.{get_or}
 use Rattle.chart.specs.View.{state_at, view}
-use Rattle.chart_rules.proofs.Readable.{chart_needs}
 use Rattle.chart_meaning.proofs.Tree.{tree}
 use Rattle.flatten_meaning.specs.Flattened.{comes}
 use Rattle.flatten_sets.proofs.Sets.{may_parent}
@@ -15,7 +14,7 @@ pub returns-then-not-has : goal.returns-then-not-has
 unfolding comes
 returns-then-not-has c =
     let has = c.has in
-    let told = has.ensures ∙ c.requires.3 in
+    let told = has.ensures ∙ c.requires.2 in
     rw (sym told ∙ c.if-not-has.true)
 
 pub is_decided-requires : goal.is_decided-requires
@@ -23,14 +22,14 @@ is_decided-requires c =
     let s = c.args in
     let pre = c.requires in
     let has = c.has in
-    let enters = sym (has.ensures ∙ pre.3) ∙ c.if-not-has.false in
-    (pre.0, pre.1, pre.2, may_parent (view s.t.now) (tree pre.0) s.k s.j pre.2 enters)
+    let enters = sym (has.ensures ∙ pre.2) ∙ c.if-not-has.false in
+    (pre.0, pre.1, may_parent (view s.t.table.words.now) (tree c.args.t.rules) s.k s.j pre.1 enters)
 
 pub returns-then-not-is_decided : goal.returns-then-not-is_decided
 unfolding comes
 returns-then-not-is_decided c =
     let has = c.has in
-    let told = has.ensures ∙ c.requires.3 in
+    let told = has.ensures ∙ c.requires.2 in
     let free = c.is_decided in
     rw (
       sym told ∙ c.if-not-has.false,
@@ -41,9 +40,9 @@ pub returns : goal.returns
 unfolding comes
 returns c =
     let s = c.args in
-    let count_word = ap (λ (i : ℕ). get_or s.t.now i 0) (sym (add_assoc (state_at s.t.now s.j) 5 1)) in
+    let count_word = ap (λ (i : ℕ). get_or s.t.table.words.now i 0) (sym (add_assoc (state_at s.t.table.words.now s.j) 5 1)) in
     let has = c.has in
-    let told = has.ensures ∙ c.requires.3 in
+    let told = has.ensures ∙ c.requires.2 in
     let free = c.is_decided in
     let count = c.state_word.ensures.is ∙ count_word in
     rw (
@@ -51,6 +50,3 @@ returns c =
       sym free.ensures ∙ c.if-not-is_decided.false,
       ← count,
     )
-
-pub state_word-requires : goal.state_word-requires
-state_word-requires c = search chart_needs

@@ -16,10 +16,10 @@ unfolding forks
 returns-then-not-both c =
     let s = c.args in
     let pre = c.requires in
-    let v = view s.t.now in
+    let v = view s.t.table.words.now in
     let both = c.both in
-    let in-can = c.has.ensures ∙ pre.3 in
-    let in-need = c.has-2.ensures ∙ pre.4 in
+    let in-can = c.has.ensures ∙ pre.2 in
+    let in-need = c.has-2.ensures ∙ pre.3 in
     let told = both.ensures ∙ ap₂ ◌&&◌ in-can in-need in
     sym (forks_not (may v s.k s.j) (decides v s.k s.j)
     (any_below (λ i. within v s.j i && comes v s.k i) v.states)
@@ -29,23 +29,23 @@ pub is_decided-requires : goal.is_decided-requires
 is_decided-requires c =
     let s = c.args in
     let pre = c.requires in
-    let v = view s.t.now in
+    let v = view s.t.table.words.now in
     let both = c.both in
-    let in-can = c.has.ensures ∙ pre.3 in
-    let in-need = c.has-2.ensures ∙ pre.4 in
+    let in-can = c.has.ensures ∙ pre.2 in
+    let in-need = c.has-2.ensures ∙ pre.3 in
     let told = both.ensures ∙ ap₂ ◌&&◌ in-can in-need in
     let enters = and_l (may v s.k s.j) _ (sym told ∙ c.if-not-both.false) in
-    (pre.0, pre.1, pre.2, may_parent v (tree pre.0) s.k s.j pre.2 enters)
+    (pre.0, pre.1, may_parent v (tree c.args.t.rules) s.k s.j pre.1 enters)
 
 pub returns : goal.returns
 unfolding forks
 returns c =
     let s = c.args in
     let pre = c.requires in
-    let v = view s.t.now in
+    let v = view s.t.table.words.now in
     let both = c.both in
-    let in-can = c.has.ensures ∙ pre.3 in
-    let in-need = c.has-2.ensures ∙ pre.4 in
+    let in-can = c.has.ensures ∙ pre.2 in
+    let in-need = c.has-2.ensures ∙ pre.3 in
     let told = both.ensures ∙ ap₂ ◌&&◌ in-can in-need in
     c.is_decided.ensures
     ∙ sym (forks_so (may v s.k s.j) (decides v s.k s.j)

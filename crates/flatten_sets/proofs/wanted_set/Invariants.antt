@@ -1,5 +1,5 @@
--- What the loops of `flatten_sets::wanted_set` keep, and what grows smaller.
-use Prim.Native.Nat.{ℕ, ◌-◌, ◌<◌, ◌≤◌}
+-- What the loop of `flatten_sets::wanted_set` keeps.
+use Prim.Native.Nat.{ℕ, ◌<◌}
 use mathlib.Core.Path.{◌≡◌}
 use mathlib.Core.Bool.{Bool, false}
 use lib.ListN.{get_or}
@@ -14,8 +14,4 @@ abbrev pub by : Chart → ℕ → ℕ → Bool
 by c j k = wants c k j
 
 abbrev pub invariant-loop-k : goal.invariant-loop-k
-invariant-loop-k l =
-    (l.k ≤ l.n) × ((j : ℕ) → j < (view l.t).states → get_or (cells l.set) j false ≡ any_below (by (view l.t) j) l.k)
-
-abbrev pub decreases-loop-k : goal.decreases-loop-k
-decreases-loop-k l = l.n - l.k
+invariant-loop-k l = (j : ℕ) → j < (view l.t.table.words.now).states → get_or (cells l.set) j false ≡ any_below (by (view l.t.table.words.now) j) l.k

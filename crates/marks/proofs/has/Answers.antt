@@ -4,4 +4,4 @@ use Rattle.marks.proofs.has.Goals as goal
 
 pub returns : goal.returns
 unfolding marked
-returns c = rw (c.has_bit.ensures, c.word_in.ensures)
+returns c = rw (c.has_bit.ensures, c.from.ensures, c.word_in.ensures)

@@ -18,7 +18,7 @@ returns-then-b-gt0 c =
     let b = c.last_bit-b in
     let on = c.loop-n-test.true in
     last_on (marked s.marks.now) l.n s.k _ l.invariant.0 l.invariant.1
-    (first_down s.marks.now w.result l.n b.result on w.ensures b.ensures (omega (arith, c.if-b-gt0.true)))
+    (first_down s.marks.now w.result l.n b.result on w.ensures (rw (← c.from.ensures) b.ensures) (omega (arith, c.if-b-gt0.true)))
 
 pub loop-n-preserved : goal.loop-n-preserved
 loop-n-preserved c =
@@ -28,7 +28,7 @@ loop-n-preserved c =
     let b = c.last_bit-b in
     let n = l.n in
     let on = c.loop-n-test.true in
-    let none = none_down s.marks.now w.result n b.result on w.ensures b.ensures in (
+    let none = none_down s.marks.now w.result n b.result on w.ensures (rw (← c.from.ensures) b.ensures) in (
       omega (arith, l.invariant.0),
       none_on (marked s.marks.now) _ n s.k (λ j g h. none j (omega (arith, c.if-b-gt0.false)) h) l.invariant.1,
     )

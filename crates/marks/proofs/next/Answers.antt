@@ -1,5 +1,5 @@
 -- `marks::next` meets its contract: word by word, nothing from k on is marked so far. Assumes nothing.
-use Prim.Native.Nat.{◌-◌, ◌/◌, ◌%◌, ◌^◌}
+use Prim.Native.Nat.{◌/◌, ◌%◌, ◌^◌}
 use native.Mathlib.Nat.{le_refl}
 use native.Mathlib.Omega.{arith}
 use lib.Count.{trailing_le}

@@ -1,8 +1,8 @@
 -- `marks::with_bit` meets its contract: 1 shifted is a power of two, and no bit of it is lost. Assumes nothing.
+use Rattle.std.proofs.lemmas.Nat.{one_shl}
 use Rattle.marks.specs.Bits.{set_bit}
-use Rattle.marks.proofs.Bits.{one_shl}
 use Rattle.marks.proofs.with_bit.Goals as goal
 
 pub returns : goal.returns
 unfolding set_bit
-returns c = rw (one_shl 16 c.args.k c.requires)
+returns c = rw (one_shl c.args.k 64 c.requires)

@@ -1,8 +1,9 @@
 -- An answer is determined by its number and place, a run's by its numbers, and a refusal leaves the room as it was. Assumes nothing.
 use mathlib.Core.Path.{◌≡◌, sym, ap, ◌∙◌}
 use mathlib.Core.List.{List}
+use Rattle.std.specs.Prelude.{⊤, Result}
+use Rattle.table.specs.declared.Refusal.{Refusal}
 use Prim.Native.Nat.{ℕ}
-use Rattle.table.specs.declared.Verdict.{Verdict}
 use Rattle.table.proofs.Answers.{told_once}
 use Rattle.effects.specs.Lent.{Started, start_told}
 use Rattle.chart_engine.proofs.Answers.{ran_once}
@@ -11,7 +12,7 @@ use Rattle.olivrescum.proofs.Flattened as Flattened
 use Rattle.olivrescum.proofs.theorems.determinate.Goals as goal
 
 -- two starts that leave the same
-started_once : (a b : Verdict) (x y : List ℕ) {s : Started} → start_told a x ≡ s → start_told b y ≡ s → (a ≡ b) × (x ≡ y)
+started_once : (a b : Result ⊤ Refusal) (x y : List ℕ) {s : Started} → start_told a x ≡ s → start_told b y ≡ s → (a ≡ b) × (x ≡ y)
 started_once a b x y p q =
     let e : start_told a x ≡ start_told b y = p ∙ sym q in
     (told_once a b (ap (λ (s : Started). s.answer) e), ap (λ (s : Started). s.state) e)

@@ -1,5 +1,0 @@
--- In the second arm the flattening is known to be refused. Assumes nothing.
-use Rattle.answers.proofs.flatten_verdict_of.Goals as goal
-
-pub returns-in-Refused : goal.returns-in-Refused
-returns-in-Refused c = rw c.in-Refused.is

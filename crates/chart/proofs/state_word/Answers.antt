@@ -1,5 +1,0 @@
--- `chart::state_word` meets its contract: what it returns is what its callees say. Assumes nothing.
-use Rattle.chart.proofs.state_word.Goals as goal
-
-pub returns : goal.returns
-returns c = record { is = rw (c.number_in.ensures.is, c.state_at.ensures.is); small = c.number_in.ensures.small }

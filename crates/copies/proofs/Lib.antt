@@ -1,2 +1,0 @@
--- Laws of what this crate works out: `Copied` of words copied behind others.
-pub mod Copied
