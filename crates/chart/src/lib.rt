@@ -5,7 +5,7 @@
 
 ghost use Rattle.std.specs.Prelude.{◌≡◌, ◌+◌, ◌*◌, ◌<◌, length};
 ghost use Rattle.table.specs.Layout.{at};
-ghost use Rattle.chart.specs.View.{is_and, and_state?, child_of?, state_at, transition_at};
+ghost use Rattle.chart.specs.View.{view, is_and, and_state?, child_of?, state_at, transition_at};
 ghost use Rattle.chart.specs.Readable.{Readable};
 ghost use Rattle.chart.specs.Literals.{literal_of, literal_in};
 ghost use Rattle.chart.specs.Tree.{within, meeting, apart};
@@ -200,20 +200,14 @@ impl Table<'_> {
     pub fn is_and_state(self, a: usize) -> bool
         ensures { result ≡ and_state? (shown self.entry) a }
     {
-        if a < self.head(STATES) {
-            return self.is_and(a);
-        }
-        false
+        is_and_state(self.words, a)
     }
 
     // Whether j is the number of a child of state k.
     pub fn is_child(self, k: usize, j: usize) -> bool
         ensures { result ≡ child_of? (shown self.entry) k j }
     {
-        if j < self.head(STATES) {
-            return self.state_word(j, PARENT) == k;
-        }
-        false
+        is_child(self.words, k, j)
     }
 
     // The nearest state that is one of a and b or above it, and so for the other; 0 where there is none.
@@ -273,4 +267,28 @@ impl Table<'_> {
         let m = self.meeting_of(a, b);
         words::both(m != a, words::both(m != b, self.is_and(m)))
     }
+}
+
+// Whether a is the number of an and-state.
+pub fn is_and_state(t: &[u16], a: usize) -> bool
+    requires { Readable t.now }
+    ensures { result ≡ and_state? (view t.now) a }
+{
+    let table = Table { words: t };
+    if a < table.head(STATES) {
+        return table.is_and(a);
+    }
+    false
+}
+
+// Whether j is the number of a child of state k.
+pub fn is_child(t: &[u16], k: usize, j: usize) -> bool
+    requires { Readable t.now }
+    ensures { result ≡ child_of? (view t.now) k j }
+{
+    let table = Table { words: t };
+    if j < table.head(STATES) {
+        return table.state_word(j, PARENT) == k;
+    }
+    false
 }

@@ -3,6 +3,8 @@
 
 ghost use Rattle.std.specs.Prelude.{◌≡◌, true, false, ◌||◌, cond, ℕ, suc, ◌+◌, ◌<◌, ◌≤◌, length, get_or, eqb};
 ghost use Rattle.chart.specs.Shown.{shown};
+ghost use Rattle.chart.specs.View.{view};
+ghost use Rattle.chart_rules.specs.Rules.{ChartRules};
 ghost use Rattle.states.specs.Cells.{cells};
 ghost use Rattle.chart_meaning.specs.Active.{is_or, or_rank, child, active};
 ghost use Rattle.chart_meaning.specs.Scope.{beneath};
@@ -35,37 +37,40 @@ fn rank_after(t: Table, k: usize, r: u16) -> u16
 }
 
 // The places of the or-states' words, by their numbers; and how many there are.
-pub fn or_ranks(t: Accepted, ranks: &mut [u16]) -> usize
-    requires { 48 ≤ length ranks.old }
-    ensures is { result ≡ or_states (shown t.entry.table) }
+pub fn or_ranks(t: &[u16], ranks: &mut [u16]) -> usize
+    requires { ChartRules t.now × (48 ≤ length ranks.old) }
+    ensures is { result ≡ or_states (view t.now) }
     ensures few { result ≤ 24 }
-    ensures ranks { Ranks (shown t.entry.table) ranks.new }
+    ensures ranks { Ranks (view t.now) ranks.new }
 {
-    let n = t.table.head(chart::STATES);
+    let table = Table { words: t };
+    let n = table.head(chart::STATES);
     let mut r: u16 = 0;
     for k in 0..n {
         words::put(ranks, k, r);
-        r = rank_after(t.table, k, r);
+        r = rank_after(table, k, r);
     }
     words::wide(r)
 }
 
 // The or-states.
-pub fn or_states(t: Accepted) -> StateSet
-    ensures { Ors (shown t.entry.table) (cells result) }
+pub fn or_states(t: &[u16]) -> StateSet
+    requires { ChartRules t.now }
+    ensures { Ors (view t.now) (cells result) }
 {
-    let n = t.table.head(chart::STATES);
+    let table = Table { words: t };
+    let n = table.head(chart::STATES);
     let mut ors = StateSet::none();
     for k in 0..n {
-        ors = ors.grown(k, !t.table.is_and(k));
+        ors = ors.grown(k, !table.is_and(k));
     }
     ors
 }
 
 // The place of or-state o's word: how many or-states have a smaller number.
-pub fn rank_of(t: Accepted, ors: StateSet, o: usize) -> usize
-    requires { Ors (shown t.table) (cells ors) × (o ≤ (shown t.table).states) }
-    ensures { result ≡ or_rank (shown t.entry.table) o }
+pub fn rank_of(t: &[u16], ors: StateSet, o: usize) -> usize
+    requires { ChartRules t.now × Ors (view t.now) (cells ors) × (o ≤ (view t.now).states) }
+    ensures { result ≡ or_rank (view t.now) o }
 {
     ors.count_below(o)
 }
@@ -76,7 +81,7 @@ pub fn count(t: Accepted, ors: StateSet) -> usize
     ensures is { result ≡ or_states (shown t.entry.table) }
     ensures few { result ≤ 24 }
 {
-    rank_of(t, ors, t.table.head(chart::STATES))
+    rank_of(t.table.words, ors, t.table.head(chart::STATES))
 }
 
 // The current child of or-state o, whose word is at place r.
@@ -113,14 +118,16 @@ fn with_child(t: Accepted, current: &[u16], acts: StateSet, o: usize, r: usize) 
 }
 
 // The set, which shows the active states before or-state o, whose word is at place r, as far as o and its children.
-pub fn show(t: Accepted, current: &[u16], acts: StateSet, o: usize, r: usize) -> StateSet
-    requires { (o < (shown t.table).states) × (is_or (shown t.table) o ≡ true) × (r ≡ or_rank (shown t.table) o) × Shown (shown t.table) current.now o (cells acts) }
-    ensures { Shown (shown t.entry.table) current.now (o + 1) (cells result) }
+pub fn show(t: &[u16], current: &[u16], acts: StateSet, o: usize, r: usize) -> StateSet
+    requires { ChartRules t.now × (o < (view t.now).states) × (is_or (view t.now) o ≡ true) × (r ≡ or_rank (view t.now) o) × Shown (view t.now) current.now o (cells acts) }
+    ensures { Shown (view t.now) current.now (o + 1) (cells result) }
 {
-    if !is_up(t, acts, o) {
+    let table = Table { words: t };
+    let accepted = Accepted { table };
+    if !is_up(accepted, acts, o) {
         return acts;
     }
-    with_child(t, current, acts, o, r)
+    with_child(accepted, current, acts, o, r)
 }
 
 // The active states: an or-state decides on itself and on its children.
@@ -133,7 +140,7 @@ pub fn active_set(t: Accepted, ors: StateSet, current: &[u16]) -> StateSet
     let mut r = 0;
     let mut o = 0;
     while o < n {
-        acts = show(t, current, acts, o, r);
+        acts = show(t.table.words, current, acts, o, r);
         r += 1;
         o = ors.next(o + 1, n);
     }

@@ -43,7 +43,7 @@ fn run_state(
     requires { Lent (shown t.table) (cells ors) words state.old }
     ensures { ran_told result state.new outputs.new ≡ ran_on (shown t.entry.table) state.old event.0 outputs.old }
 {
-    let n = chart_macrostep::run(t, ors, words, state, event, outputs);
+    let n = chart_macrostep::run(t.table.words, ors, words, state, event, outputs);
     if n.is_stopped() {
         return Err(n.refusal());
     }
@@ -59,7 +59,7 @@ fn run_accepted(
 ) -> Result<Counts, Refusal>
     ensures { ran_told result state.new outputs.new ≡ ran_accepted (shown t.entry.table) state.old event outputs.old }
 {
-    let ors = chart_active::or_states(t);
+    let ors = chart_active::or_states(t.table.words);
     let words = chart_active::count(t, ors);
     if !chart_state::is_state(t, ors, words, state) {
         return Err(Refusal::State);
@@ -90,7 +90,7 @@ pub fn run(t: &[u16], state: &mut [u16], event: u32, outputs: &mut [u16]) -> Res
 fn start_accepted(t: Accepted, state: &mut [u16]) -> Result<(), Refusal>
     ensures { start_told result state.new ≡ started_on (shown t.entry.table) state.old }
 {
-    let words = chart_active::count(t, chart_active::or_states(t));
+    let words = chart_active::count(t, chart_active::or_states(t.table.words));
     if state.len() != words + t.table.head(chart::VARIABLES) {
         return Err(Refusal::State);
     }

@@ -114,7 +114,7 @@ fn with_chosen(
         return led;
     }
     if chart_active::keeps_word(t.table, o) {
-        let r = chart_active::rank_of(t, ors, o);
+        let r = chart_active::rank_of(t.table.words, ors, o);
         return with_child(
             t,
             o,

@@ -6,12 +6,15 @@ ghost use Rattle.effects.specs.Run.{macrostep};
 ghost use Rattle.effects.specs.Lent.{pairs_for, zeros};
 ghost use Rattle.effects.specs.Work.{going, turns};
 ghost use Rattle.chart.specs.Shown.{shown};
+ghost use Rattle.chart.specs.View.{view};
+ghost use Rattle.chart_rules.specs.Rules.{ChartRules};
 ghost use Rattle.states.specs.Cells.{cells};
 ghost use Rattle.chart_active.specs.Ors.{Ors};
 ghost use Rattle.chart_meaning.specs.Steps.{chart_machine, rest};
 ghost use Rattle.macrostep.specs.Ends.{Ends};
 ghost use Rattle.chart_macrostep.specs.Tried.{Lent, Tried};
 
+use chart::Table;
 use chart_rules::Accepted;
 use effects::{Counted, Progress, Stop};
 use macrostep::KEPT;
@@ -37,7 +40,7 @@ fn go(
     let mut m = n;
     let mut e = event;
     for _ in 0..64u32 {
-        m = chart_microstep::run(t, ors, e, pairs, next, vars, outs, queue, m);
+        m = chart_microstep::run(t.table.words, ors, e, pairs, next, vars, outs, queue, m);
         m = m.one_more(Counted::Microstep);
         if m.has_ended() {
             return m;
@@ -141,17 +144,27 @@ fn pass(
 // A macrostep on `state`, which has `words` words before its variables. It becomes the state after the macrostep, and `outputs` gets
 // what was given; one that stops leaves both as they were.
 pub fn run(
-    t: Accepted,
+    t: &[u16],
     ors: StateSet,
     words: usize,
     state: &mut [u16],
     event: Trigger,
     outputs: &mut [u16],
 ) -> Progress
-    requires { Lent (shown t.table) (cells ors) words state.old }
-    ensures { Ends (rest (shown t.entry.table)) state.old outputs.old result state.new outputs.new (macrostep (shown t.entry.table).events (pairs_for (length outputs.old)) (chart_machine (shown t.entry.table)) event.0 (take words state.old) (drop words state.old)) }
+    requires { ChartRules t.now × Lent (view t.now) (cells ors) words state.old }
+    ensures { Ends (rest (view t.now)) state.old outputs.old result state.new outputs.new (macrostep (view t.now).events (pairs_for (length outputs.old)) (chart_machine (view t.now)) event.0 (take words state.old) (drop words state.old)) }
 {
+    let table = Table { words: t };
+    let accepted = Accepted { table };
     let first = macrostep::first_of(outputs.len());
     let mut kept = [0u16; KEPT];
-    pass(t, ors, words, state, event, outputs, &mut kept[..first])
+    pass(
+        accepted,
+        ors,
+        words,
+        state,
+        event,
+        outputs,
+        &mut kept[..first],
+    )
 }

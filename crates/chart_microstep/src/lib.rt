@@ -6,6 +6,8 @@ ghost use Rattle.std.specs.Prelude.{◌≡◌, false, cond, List, [], ℕ, ◌<�
 ghost use Rattle.words.specs.Loops.{join_up};
 ghost use Rattle.effects.specs.Work.{going, do_step, do_steps};
 ghost use Rattle.chart.specs.Shown.{shown};
+ghost use Rattle.chart.specs.View.{view};
+ghost use Rattle.chart_rules.specs.Rules.{ChartRules};
 ghost use Rattle.states.specs.Cells.{cells};
 ghost use Rattle.chart_meaning.specs.Scope.{scope};
 ghost use Rattle.chart_meaning.specs.Entered.{entereds};
@@ -14,6 +16,7 @@ ghost use Rattle.chart_active.specs.Ors.{Ors};
 ghost use Rattle.chart_moves.specs.Below.{leaves_below, enters_all};
 ghost use Rattle.chart_microstep.specs.Took.{Took};
 
+use chart::Table;
 use chart_rules::Accepted;
 use effects::Progress;
 use states::StateSet;
@@ -111,7 +114,7 @@ fn fire_all(
 
 // One microstep for trigger e, from the words of `next` to those of `next`.
 pub fn run(
-    t: Accepted,
+    t: &[u16],
     ors: StateSet,
     e: Trigger,
     pairs: usize,
@@ -121,10 +124,14 @@ pub fn run(
     queue: &mut [u8],
     n: Progress,
 ) -> Progress
-    requires { Ors (shown t.table) (cells ors) }
-    ensures { going result next.new vars.new outs.new queue.new ≡ do_steps pairs (chart_machine (shown t.entry.table) e.0 next.old vars.old) (going n next.old vars.old outs.old queue.old) }
+    requires { ChartRules t.now × Ors (view t.now) (cells ors) }
+    ensures { going result next.new vars.new outs.new queue.new ≡ do_steps pairs (chart_machine (view t.now) e.0 next.old vars.old) (going n next.old vars.old outs.old queue.old) }
 {
-    let acts = chart_active::active_set(t, ors, next);
-    let taken = chart_taken::taken_set(t, e.0 as usize, acts, vars);
-    fire_all(t, ors, acts, taken, pairs, next, vars, outs, queue, n)
+    let table = Table { words: t };
+    let accepted = Accepted { table };
+    let acts = chart_active::active_set(accepted, ors, next);
+    let taken = chart_taken::taken_set(accepted, e.0 as usize, acts, vars);
+    fire_all(
+        accepted, ors, acts, taken, pairs, next, vars, outs, queue, n,
+    )
 }

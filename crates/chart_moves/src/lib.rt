@@ -86,7 +86,7 @@ fn enter_one(
     ensures { going result next.new vars.new outs.new queue.new ≡ do_step pairs (enter_step (shown t.entry.table) j) (going n next.old vars.old outs.old queue.old) }
 {
     let o = t.table.state_word(j, chart::PARENT);
-    words::put(next, chart_active::rank_of(t, ors, o), j as u16);
+    words::put(next, chart_active::rank_of(t.table.words, ors, o), j as u16);
     effects::run_span(
         t.table.words,
         chart::ITEMS_AT,

@@ -40,7 +40,7 @@ fn good_words(t: Accepted, ors: StateSet, current: &[u16]) -> bool
     let mut r = 0;
     let mut o = 0;
     while o < n {
-        acts = chart_active::show(t, current, acts, o, r);
+        acts = chart_active::show(t.table.words, current, acts, o, r);
         if !good_word(t, current, acts, o, r) {
             return false;
         }
@@ -97,7 +97,7 @@ pub fn lay_rest(t: Accepted, ors: StateSet, current: &[u16], state: &mut [u16])
     let mut r = 0;
     let mut o = 0;
     while o < n {
-        acts = chart_active::show(t, current, acts, o, r);
+        acts = chart_active::show(t.table.words, current, acts, o, r);
         words::put(state, r, rest_word(t, current, acts, o, r));
         r += 1;
         o = ors.next(o + 1, n);

@@ -5,7 +5,7 @@
 
 ghost use Rattle.std.specs.Prelude.{◌≡◌, ◌+◌, ◌*◌, ◌<◌, length};
 ghost use Rattle.table.specs.Layout.{at};
-ghost use Rattle.flat.specs.View.{guard_at, literal_at, rule_at, of_machine?};
+ghost use Rattle.flat.specs.View.{flat_view, guard_at, literal_at, rule_at, of_machine?};
 ghost use Rattle.flat.specs.Readable.{FlatReadable};
 ghost use Rattle.flat.specs.Literals.{flat_literal_of, flat_literal_in};
 ghost use Rattle.flat.specs.Targets.{flat_target_of};
@@ -127,10 +127,7 @@ impl Table<'_> {
     pub fn is_of_machine(self, m: usize, j: usize) -> bool
         ensures { result ≡ of_machine? (shown self.entry) m j }
     {
-        if j < self.head(STATES) {
-            return self.machine_of(j) == m;
-        }
-        false
+        is_of_machine(self.words, m, j)
     }
 
     // Where the words of guard k begin: the first of its literals, and behind it their count.
@@ -213,4 +210,16 @@ impl Table<'_> {
     {
         self.head(ITEMS_AT) + 3 * i
     }
+}
+
+// Whether j is the number of a state of machine m.
+pub fn is_of_machine(t: &[u16], m: usize, j: usize) -> bool
+    requires { FlatReadable t.now }
+    ensures { result ≡ of_machine? (flat_view t.now) m j }
+{
+    let table = Table { words: t };
+    if j < table.head(STATES) {
+        return table.machine_of(j) == m;
+    }
+    false
 }

@@ -64,7 +64,7 @@ fn run_state(
     ensures { flat_ran_told result state.new outputs.new ≡ flat_ran_on (shown t.entry.table) state.old event.0 outputs.old }
 {
     let machines = t.table.head(flat::MACHINES);
-    let n = flat_macrostep::run(t, marks, machines, state, event, outputs);
+    let n = flat_macrostep::run(t.table.words, marks, machines, state, event, outputs);
     if n.is_stopped() {
         return Err(n.refusal());
     }

@@ -6,11 +6,14 @@ ghost use Rattle.effects.specs.Run.{macrostep};
 ghost use Rattle.effects.specs.Lent.{pairs_for};
 ghost use Rattle.effects.specs.Work.{going, turns, fresh};
 ghost use Rattle.flat.specs.Shown.{shown};
+ghost use Rattle.flat.specs.View.{flat_view};
+ghost use Rattle.flat_rules.specs.Rules.{FlatRules};
 ghost use Rattle.flat_meaning.specs.Steps.{flat_machine};
 ghost use Rattle.macrostep.specs.Ends.{handed, Ends};
 ghost use Rattle.flat_macrostep.specs.Sized.{Sized};
 
 use effects::{Counted, Progress, Stop};
+use flat::Table;
 use flat_rules::Accepted;
 use macrostep::KEPT;
 use table::Trigger;
@@ -34,7 +37,7 @@ fn go(
     let mut m = n;
     let mut e = event;
     for _ in 0..64u32 {
-        m = flat_microstep::run(t, marks, e, pairs, next, vars, outs, queue, m);
+        m = flat_microstep::run(t.table.words, marks, e, pairs, next, vars, outs, queue, m);
         m = m.one_more(Counted::Microstep);
         if m.has_ended() {
             return m;
@@ -147,16 +150,18 @@ fn run_on(
 // A macrostep on `state`, whose first `words` words are the machines' and whose others are variables. It becomes the state after
 // the macrostep, and `outputs` gets what was given; one that stops leaves both as they were. `marks` has a bit for each guard.
 pub fn run(
-    t: Accepted,
+    t: &[u16],
     marks: &mut [u16],
     words: usize,
     state: &mut [u16],
     event: Trigger,
     outputs: &mut [u16],
 ) -> Progress
-    requires { ((shown t.table).guards ≤ 16 * length marks.old) × (words ≡ (shown t.table).machines) × (words ≤ 24) × (words ≤ length state.old) × (length state.old ≤ words + 16) }
-    ensures { Ends (λ words. words) state.old outputs.old result state.new outputs.new (macrostep (shown t.entry.table).events (pairs_for (length outputs.old)) (flat_machine (shown t.entry.table)) event.0 (take words state.old) (drop words state.old)) }
+    requires { FlatRules t.now × ((flat_view t.now).guards ≤ 16 * length marks.old) × (words ≡ (flat_view t.now).machines) × (words ≤ 24) × (words ≤ length state.old) × (length state.old ≤ words + 16) }
+    ensures { Ends (λ words. words) state.old outputs.old result state.new outputs.new (macrostep (flat_view t.now).events (pairs_for (length outputs.old)) (flat_machine (flat_view t.now)) event.0 (take words state.old) (drop words state.old)) }
 {
+    let table = Table { words: t };
+    let accepted = Accepted { table };
     let v = state.len() - words;
     let first = macrostep::first_of(outputs.len());
     let mut next = [0u16; 24];
@@ -164,7 +169,7 @@ pub fn run(
     let mut kept = [0u16; KEPT];
     let mut queue = [0u8; 32];
     run_on(
-        t,
+        accepted,
         marks,
         state,
         event,

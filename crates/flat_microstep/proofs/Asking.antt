@@ -14,7 +14,7 @@ use Rattle.flat_microstep.specs.Stretch.{has?, Asked}
 use Rattle.flat_microstep.proofs.Seeking.{not_skipped}
 
 -- what is marked stays so
-abbrev Stays : List ℕ → List ℕ → Type 0
+abbrev pub Stays : List ℕ → List ℕ → Type 0
 Stays before after = (a : ℕ) → marked before a ≡ true → marked after a ≡ true
 
 module _ (k : ℕ) (before after : List ℕ) (l : k < 16 * length before) (e : after ≡ with_mark k before) where

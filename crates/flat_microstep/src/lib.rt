@@ -9,7 +9,8 @@ ghost use Rattle.words.specs.Next.{Next};
 ghost use Rattle.effects.specs.Run.{set_all};
 ghost use Rattle.effects.specs.Work.{going, do_steps};
 ghost use Rattle.flat.specs.Shown.{shown};
-ghost use Rattle.flat.specs.View.{rule_at};
+ghost use Rattle.flat.specs.View.{flat_view, rule_at};
+ghost use Rattle.flat_rules.specs.Rules.{FlatRules};
 ghost use Rattle.flat_meaning.specs.Steps.{target_set, rule_step, firing, flat_machine};
 ghost use Rattle.marks.specs.Bits.{marked};
 ghost use Rattle.flat_microstep.specs.Stretch.{has?, Stretch, Asked};
@@ -174,7 +175,7 @@ fn fire_all(
 // One microstep for trigger e, from the words of `next` to those of `next`. `marks` is scratch space. No rule has a trigger that is
 // more than a word.
 pub fn run(
-    t: Accepted,
+    t: &[u16],
     marks: &mut [u16],
     e: Trigger,
     pairs: usize,
@@ -184,19 +185,21 @@ pub fn run(
     queue: &mut [u8],
     n: Progress,
 ) -> Progress
-    requires { ((shown t.table).guards ≤ 16 * length marks.old) × (length next.old ≡ (shown t.table).machines) }
-    ensures { going result next.new vars.new outs.new queue.new ≡ do_steps pairs (flat_machine (shown t.entry.table) e.0 next.old vars.old) (going n next.old vars.old outs.old queue.old) }
+    requires { FlatRules t.now × ((flat_view t.now).guards ≤ 16 * length marks.old) × (length next.old ≡ (flat_view t.now).machines) }
+    ensures { going result next.new vars.new outs.new queue.new ≡ do_steps pairs (flat_machine (flat_view t.now) e.0 next.old vars.old) (going n next.old vars.old outs.old queue.old) }
 {
+    let table = Table { words: t };
+    let accepted = Accepted { table };
     let number = e.0 as usize;
     if MOST < number {
         return n;
     }
     let trigger = number as u16;
-    let from = seek(t.table, trigger, 0, t.table.head(flat::RULES));
+    let from = seek(table, trigger, 0, table.head(flat::RULES));
     copies::clear(marks, 0);
-    let until = ask(t, marks, trigger, from);
-    flat_guards::evaluate(t, next, vars, marks);
+    let until = ask(accepted, marks, trigger, from);
+    flat_guards::evaluate(accepted, next, vars, marks);
     fire_all(
-        t, marks, trigger, from, until, pairs, next, vars, outs, queue, n,
+        accepted, marks, trigger, from, until, pairs, next, vars, outs, queue, n,
     )
 }

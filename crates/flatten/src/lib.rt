@@ -98,7 +98,7 @@ fn lay_table(t: Accepted, room: &mut [u16]) -> u32
     let mut ands = [0u16; 48];
     let mut actives = [0u16; 48];
     let mut takens = [0u16; 48];
-    let machines = chart_active::or_ranks(t, &mut ors);
+    let machines = chart_active::or_ranks(t.table.words, &mut ors);
     let states = flatten_numbers::and_ranks(t, &mut ands);
     let asked = flatten_sets::asked_set(t);
     let guards = flatten_numbers::active_numbers(t, asked, &mut actives);

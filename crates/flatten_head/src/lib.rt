@@ -60,7 +60,7 @@ fn and_states(t: Accepted) -> usize
     ensures few { result ≤ 48 }
 {
     let mut ors = [0u16; 48];
-    let machines = chart_active::or_ranks(t, &mut ors);
+    let machines = chart_active::or_ranks(t.table.words, &mut ors);
     words::number(t.table.words, chart::STATES) - machines
 }
 

@@ -7,4 +7,4 @@ use Rattle.chart_active.proofs.Ranks.{RanksBelow}
 use Rattle.chart_active.proofs.or_ranks.Given as goal
 
 abbrev pub invariant-loop-k : goal.invariant-loop-k
-invariant-loop-k l = (l.r ≡ rank (is_or (view l.t.table.words.now)) l.k) × RanksBelow (view l.t.table.words.now) l.k l.ranks
+invariant-loop-k l = (l.r ≡ rank (is_or (view l.t)) l.k) × RanksBelow (view l.t) l.k l.ranks

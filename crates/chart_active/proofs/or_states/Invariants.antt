@@ -6,4 +6,4 @@ use Rattle.chart_meaning.specs.Active.{is_or}
 use Rattle.chart_active.proofs.or_states.Given as goal
 
 abbrev pub invariant-loop-k : goal.invariant-loop-k
-invariant-loop-k l = Growing (λ j s. is_or (view l.t.table.words.now) j) l.k (cells l.ors)
+invariant-loop-k l = Growing (λ j s. is_or (view l.t) j) l.k (cells l.ors)

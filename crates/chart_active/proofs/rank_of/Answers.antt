@@ -8,4 +8,4 @@ use Rattle.chart_active.proofs.rank_of.Goals as goal
 pub returns : goal.returns
 returns c =
     let s = c.args in
-    c.count_below.ensures ∙ members_rank (view s.t.table.words.now) (cells s.ors) c.requires.0 s.o c.requires.1
+    c.count_below.ensures ∙ members_rank (view s.t.now) (cells s.ors) c.requires.1 s.o c.requires.2

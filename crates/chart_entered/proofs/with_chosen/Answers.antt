@@ -33,7 +33,7 @@ returns-then-ne c =
 pub rank_of-r-requires : goal.rank_of-r-requires
 rank_of-r-requires c =
     let pre = c.requires in
-    (pre.2, omega (arith, pre.1))
+    (c.args.t.rules, pre.2, omega (arith, pre.1))
 
 pub returns-then-keeps_word : goal.returns-then-keeps_word
 returns-then-keeps_word c =

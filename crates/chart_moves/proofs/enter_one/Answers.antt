@@ -20,7 +20,7 @@ state_word-o-requires c = let pre = c.requires in (pre.0, lit< tt)
 pub rank_of-requires : goal.rank_of-requires
 rank_of-requires c =
     let pre = c.requires in
-    (pre.1, omega (arith, c.state_word-o.ensures.is, pre.2))
+    (c.args.t.rules, pre.1, omega (arith, c.state_word-o.ensures.is, pre.2))
 
 pub overflow_cast-j : goal.overflow_cast-j
 overflow_cast-j c =

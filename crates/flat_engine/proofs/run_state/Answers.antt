@@ -16,6 +16,7 @@ run-n-requires c =
     let counts = c.args.t.rules.counts in
     let is = c.head-machines.ensures.is in
     let long = pre.1 ∙ ap (λ (n : ℕ). n + (shown c.args.t.table).variables) (sym is) in (
+      c.args.t.rules,
       pre.0,
       is,
       le_trans (le_of_eq is) counts.machines.1,

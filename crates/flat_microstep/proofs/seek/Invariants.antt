@@ -8,7 +8,7 @@ use Rattle.flat_microstep.specs.Stretch.{has?}
 use Rattle.flat_microstep.proofs.seek.Given as goal
 
 -- of both loops: no rule from k on and before j has trigger e, and the words of rule j begin at `at`
-abbrev Sought : List ℕ → ℕ → ℕ → ℕ → ℕ → ℕ → Type 0
+abbrev pub Sought : List ℕ → ℕ → ℕ → ℕ → ℕ → ℕ → Type 0
 Sought t e k n j at = (k ≤ j) × (j ≤ n) × (at ≡ rule_at t j) × None (has? (flat_view t) e) k j
 
 abbrev pub invariant-loop-j : goal.invariant-loop-j
