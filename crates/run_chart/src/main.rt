@@ -5,9 +5,9 @@
 ghost use Rattle.std.specs.Prelude.{◌≤◌, length};
 
 use answers::Counts;
-use shell::{Steps, Text};
+use shell::Text;
 use std::fmt;
-use std::fmt::Write;
+use std::fmt::{Display, Write};
 use table::Refusal;
 
 // Reads a chart: as many words as its second word says, and no more than fit. Answers how many came.
@@ -42,10 +42,27 @@ fn state_words(t: &[u16], room: &[u16]) -> usize
     shell::lent(or_states(t) + words::number(t, chart::VARIABLES), room)
 }
 
+// Puts a space and a number. By itself, and not as a hole among others of one `write!`: each of these costs a call.
+#[inline(always)]
+fn put_field(text: &mut impl Write, number: impl Display + Drop) -> fmt::Result {
+    text.write_str(" ")?;
+    text.write(number)
+}
+
+// Puts the counts of a run but its outputs, each behind a space.
+fn put_steps(text: &mut impl Write, counts: Counts) -> fmt::Result {
+    put_field(text, counts.microsteps)?;
+    put_field(text, counts.taken)?;
+    put_field(text, counts.left)?;
+    put_field(text, counts.entered)
+}
+
 // Puts the outputs, two words each: a number, and a value signed.
 fn put_outputs(text: &mut impl Write, outputs: &[u16]) -> fmt::Result {
     for output in outputs.chunks_exact(2) {
-        write!(text, " {}:{}", output[0], output[1].cast_signed())?;
+        put_field(text, output[0])?;
+        text.write_str(":")?;
+        text.write(output[1].cast_signed())?;
     }
     Ok(())
 }
@@ -59,10 +76,12 @@ fn put_run(
 ) -> fmt::Result {
     let number = answers::number_of(&run);
     let counts = answers::counts_of(run);
-    write!(text, "{event} {number} {}", Steps(counts))?;
+    text.write(event)?;
+    put_field(text, number)?;
+    put_steps(text, counts)?;
     let written = shell::lent(2 * counts.outputs as usize, outputs);
     put_outputs(text, &outputs[..written])?;
-    writeln!(text)
+    text.write_str("\n")
 }
 
 // Runs an event, with 256 pairs lent, and puts its line.

@@ -1,7 +1,9 @@
 // What the programs share and the library has no use for: words from standard input, and text to standard output.
 #![tactic(auto)]
 
-ghost use Rattle.std.specs.Prelude.{◌≡◌, ℕ, ◌<◌, ◌≤◌, List, [], ◌∷◌, ◌++◌, length, take};
+ghost use Rattle.std.specs.Prelude.{◌≡◌, ◌-◌, ◌<◌, ◌≤◌, [], ◌∷◌, ◌++◌, length, slice_set, IsOk, Some};
+ghost use Rattle.shell.specs.Text.{waits, put_one, put_all};
+ghost use Rattle.shell.specs.Steps.{steps_text};
 
 use std::fmt;
 use std::marker::Model;
@@ -62,26 +64,31 @@ pub fn read_words(words: &mut [u16], from: usize, to: usize) -> usize
     lent(at, words)
 }
 
-// Text on its way to standard output, as contracts see it the bytes that wait: until 4096 do, or the text ends. What
-// cannot be written is dropped.
-#[derive(Drop)]
+// Text on its way to standard output: its bytes wait until 4096 do, or the text ends. Contracts see the places of the
+// bytes and how many wait; `waits` is those that do. What cannot be written is dropped.
+#[derive(Clone, Copy)]
 pub struct Text {
     bytes: [u8; 4096],
     len: usize,
 }
 
 impl Model for Text {
-    ghost Value = { List ℕ };
+    ghost use Rattle.std.specs.Prelude.{◌≤◌};
+    ghost use Rattle.shell.specs.Text.{Buffer};
 
-    ghost view = { λ t. take t.len t.bytes };
+    ghost Value = { Buffer };
+
+    ghost view = { λ t. record { bytes = t.bytes; count = t.len } };
 
     ghost invariant = { λ t. t.len ≤ 4096 };
+
+    ghost inverse = { λ t. record { bytes = t.bytes; len = t.count } };
 }
 
 impl Text {
     // No text yet.
     pub fn new() -> Text
-        ensures { result ≡ [] }
+        ensures { waits result ≡ [] }
     {
         Text {
             bytes: [0; 4096],
@@ -94,18 +101,27 @@ impl Text {
         self.write_out();
     }
 
-    // Writes out what waits.
+    // Writes out what waits. A call of its own, since one byte of 4096 comes to it.
+    #[cold]
+    #[inline(never)]
     fn write_out(&mut self)
-        ensures { self.new ≡ [] }
+        ensures nothing { waits self.new ≡ [] }
+        ensures none { self.new.count ≡ 0 }
+        ensures kept { self.new.bytes ≡ self.old.bytes }
     {
         io::write_all(STDOUT, &self.bytes[..self.len]);
         self.len = 0;
     }
 
-    // Puts a byte behind those that wait, which go out first where they are all that fit.
-    fn put_byte(&mut self, byte: u8)
-        ensures behind { length self.old < 4096 → self.new ≡ self.old ++ byte ∷ [] }
-        ensures after_full { length self.old ≡ 4096 → self.new ≡ byte ∷ [] }
+    // Puts a byte behind those that wait, which go out first where they are all that fit. It takes the last of the places
+    // that wait then, and no other place changes.
+    pub fn put_byte(&mut self, byte: u8)
+        ensures behind { length (waits self.old) < 4096 → waits self.new ≡ waits self.old ++ byte ∷ [] }
+        ensures after_full { length (waits self.old) ≡ 4096 → waits self.new ≡ byte ∷ [] }
+        ensures one_more { waits self.new ≡ put_one (waits self.old) byte }
+        ensures count_nonzero { (0 < self.new.count) × (self.new.count ≤ 4096) }
+        ensures text_after { self.new.bytes ≡ slice_set self.old.bytes (self.new.count - 1) byte }
+        ensures places { length self.new.bytes ≡ 4096 }
     {
         if self.len == 4096 {
             self.write_out();
@@ -116,8 +132,13 @@ impl Text {
 }
 
 impl fmt::Write for Text {
-    // Takes all of it.
-    fn write_str(&mut self, s: &str) -> fmt::Result {
+    ghost write_str_gives = { λ t bytes u. waits u ≡ put_all (waits t) bytes };
+
+    // Takes all of it, a byte after the other, and cannot fail.
+    fn write_str(&mut self, s: &str) -> fmt::Result
+        ensures ok { IsOk result → waits self.new ≡ put_all (waits self.old) s.now }
+        ensures variant { IsOk result }
+    {
         for byte in s.as_bytes() {
             self.put_byte(*byte);
         }
@@ -130,6 +151,8 @@ impl fmt::Write for Text {
 pub struct Steps(pub answers::Counts);
 
 impl fmt::Display for Steps {
+    ghost output = { λ s. Some (steps_text s.0) };
+
     // Writes microsteps, transitions taken, states left and states entered.
     fn fmt<W: fmt::Write>(&self, f: &mut fmt::Formatter<W>) -> fmt::Result {
         let Steps(counts) = *self;
