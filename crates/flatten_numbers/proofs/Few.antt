@@ -48,7 +48,7 @@ module _ (c : Chart) where
   unfolding taken_guards
   takens_most = rank_most (λ s. not (bare c s)) c.transitions
 
-  entered_most : (k j : ℕ) → c.states ≤ 48 → c.transitions ≤ 48 → entered_guard c k j ≤ 96 + 48 * k + j
+  pub entered_most : (k j : ℕ) → c.states ≤ 48 → c.transitions ≤ 48 → entered_guard c k j ≤ 96 + 48 * k + j
   unfolding entered_guard
   entered_most k j h l =
       let row : ℕ → ℕ = λ s. rank (forks c s) c.states in
